@@ -15,6 +15,7 @@ const char *wz_code_text(wz_code code) {
         [WZ_DAMAGE] = "the mode doesn't accept the end of the log",
         [WZ_NO_BATCH] = "the bytes are no batch",
         [WZ_RANGE] = "a number is out of its range",
+        [WZ_UNREAD] = "a record, after a stretch that isn't read",
     };
     return (size_t)code < COUNT_OF(texts) ? texts[code] : "no code of this version";
 }

@@ -5,14 +5,15 @@
    pointers that it names, and only at the answers that it names; at any other answer what they point to stays as it
    was.
 
-   Handles. A wz_reader, a wz_recovery and a wz_batch are handles: variables of the caller, which start as
+   Handles. A wz_reader, a wz_scan, a wz_recovery and a wz_batch are handles: variables of the caller, which start as
    WZ_HANDLE_INIT, or as zeros, and hold nothing then. What a handle holds is the library's memory. A call that opens
    something in a handle first frees what the handle held: so it must be set before the first call too, and it holds
-   nothing where that call fails. wz_reader_close, wz_recovery_close and wz_batch_close free what a handle holds, and
-   are fine for one that holds nothing. A handle may be moved in memory between calls, after which only the new place is
-   used. It is never copied otherwise, and stays on one thread while it holds something; threads may use different
-   handles at once. EACH CALL WRITES TO ITS HANDLE, also one that only looks something up: no two threads may make calls
-   with the same handle. Its fields are the library's own.
+   nothing where that call fails. wz_reader_close, wz_scan_close, wz_recovery_close and wz_batch_close free what a
+   handle holds, and are fine for one that holds nothing. A handle may be moved in memory between calls, after which
+   only the new place is used. It is never copied otherwise. It may go to another thread, if the two see to the order
+   (by a lock, a thread's start or its end), and threads may use different handles at once. EACH CALL WRITES TO ITS
+   HANDLE, also one that only looks something up: no two threads may make calls with the same handle at once. Its fields
+   are the library's own.
 
    Bytes. A pointer with a length means that many bytes, which are read (const) or written, and fewer than 2^63. Where
    the length is 0 it may be null. No other pointer may be null, and each is aligned as its type asks: a call with one
@@ -24,10 +25,10 @@
    Memory comes from malloc and realloc, and is freed by free. Where these find none the answer is WZ_NO_MEMORY, and no
    memory is leaked.
 
-   What is promised below is proved, of the functions as they are called from Rattle. Four things are only tested: that
-   WZ_NO_MEMORY comes only where there was no memory; that no memory is leaked; that a null pointer with the length 0
-   means no bytes; and the texts of codes and reasons. That pointers and lengths are as said above is up to the caller.
-   docs/LIBRARY.md has more, and first programs.
+   What is promised below is proved, of the functions as they are called from Rattle. Five things are only tested: that
+   WZ_NO_MEMORY comes only where there was no memory; that no memory is leaked; how much memory is taken, and what is
+   copied; that a null pointer with the length 0 means no bytes; and the texts of codes and reasons. That pointers and
+   lengths are as said above is up to the caller. docs/LIBRARY.md has more, and first programs.
 
    A program that was written when this header had one type of handle defines WZ_OLD_NAMES before it includes it: then
    all handles are a wz_handle, which wz_close closes, codes and reasons are a uint32_t, and reasons, modes and
@@ -64,7 +65,7 @@ extern "C" {
 
 /* The version of this header, and that of the library that the program runs with. They are the same number unless the
    header belongs to another version of the library. */
-#define WZ_VERSION 3u
+#define WZ_VERSION 6u
 uint32_t wz_version(void);
 
 /* What a function answers. */
@@ -77,7 +78,8 @@ WZ_ENUM(wz_code) {
   WZ_TOO_LARGE = 5, /* the batch would have more than WZ_MAX_BATCH bytes */
   WZ_DAMAGE = 6,    /* the log ends in a way that the mode doesn't accept */
   WZ_NO_BATCH = 7,  /* the bytes are no batch */
-  WZ_RANGE = 8      /* a number is none of those that the function takes */
+  WZ_RANGE = 8,     /* a number is none of those that the function takes */
+  WZ_UNREAD = 9     /* a record was found, and before it a stretch of the log in which none reads */
 };
 
 /* Why reading or recovery ended, or why bytes are no batch: `why` of wz_end. The reason's own numbers are in `first`
@@ -125,6 +127,37 @@ WZ_ENUM(wz_kind) {
   WZ_KIND_SINGLE_DELETION_CF = 8  /* takes a key of a family out that was set at most once */
 };
 
+/* The tag of an operation, of each kind that RocksDB writes (ValueType of its db/dbformat.h). Those with CF name the
+   column family that they are about; the others are about the default one, or about none. After some come two strings:
+   those are in brackets. A tag that isn't here isn't read, since it isn't known what follows it. */
+WZ_ENUM(wz_tag) {
+  WZ_TAG_DELETION = 0x00,             /* (key) */
+  WZ_TAG_VALUE = 0x01,                /* (key, value) */
+  WZ_TAG_MERGE = 0x02,                /* (key, operand) */
+  WZ_TAG_LOG_DATA = 0x03,             /* (bytes), only in the log */
+  WZ_TAG_DELETION_CF = 0x04,
+  WZ_TAG_VALUE_CF = 0x05,
+  WZ_TAG_MERGE_CF = 0x06,
+  WZ_TAG_SINGLE_DELETION = 0x07,      /* (key) */
+  WZ_TAG_SINGLE_DELETION_CF = 0x08,
+  WZ_TAG_BEGIN_PREPARE = 0x09,        /* a transaction's preparation begins */
+  WZ_TAG_END_PREPARE = 0x0a,          /* (name): it ends */
+  WZ_TAG_COMMIT = 0x0b,               /* (name) */
+  WZ_TAG_ROLLBACK = 0x0c,             /* (name) */
+  WZ_TAG_NOTHING = 0x0d,
+  WZ_TAG_RANGE_DELETION_CF = 0x0e,    /* (first key, the key after the last) */
+  WZ_TAG_RANGE_DELETION = 0x0f,
+  WZ_TAG_BLOB_INDEX_CF = 0x10,        /* (key, index) */
+  WZ_TAG_BLOB_INDEX = 0x11,
+  WZ_TAG_BEGIN_PERSISTED_PREPARE = 0x12,
+  WZ_TAG_BEGIN_UNPREPARE = 0x13,
+  WZ_TAG_COMMIT_WITH_TIMESTAMP = 0x15, /* (timestamp, name) */
+  WZ_TAG_WIDE_COLUMNS = 0x16,         /* (key, columns) */
+  WZ_TAG_WIDE_COLUMNS_CF = 0x17,
+  WZ_TAG_VALUE_WITH_TIME = 0x18,      /* (key, value and the time when it was written) */
+  WZ_TAG_VALUE_WITH_TIME_CF = 0x19
+};
+
 #define WZ_BLOCK_LEN 32768u       /* the bytes of a log's block */
 #define WZ_BATCH_HEADER_LEN 12u   /* the bytes of a batch's header */
 #define WZ_MAX_BATCH 16777216u    /* the most bytes of a batch that is built here */
@@ -137,10 +170,13 @@ typedef enum wz_code wz_code;
 typedef enum wz_why wz_why;
 typedef enum wz_mode wz_mode;
 typedef enum wz_kind wz_kind;
-typedef char wz_enums_have_four_bytes[sizeof(wz_code) == 4 && sizeof(wz_why) == 4 && sizeof(wz_kind) == 4 ? 1 : -1];
+typedef enum wz_tag wz_tag;
+typedef char wz_enums_have_four_bytes[sizeof(wz_code) == 4 && sizeof(wz_why) == 4 && sizeof(wz_kind) == 4 &&
+                                      sizeof(wz_tag) == 4 ? 1 : -1];
 
-/* A reader of a log's records, what a log recovers, and a batch that is built. */
+/* A reader of a log's records, a scan of them, what a log recovers, and a batch that is built. */
 typedef struct wz_reader { wz_handle handle; } wz_reader;
+typedef struct wz_scan { wz_handle handle; } wz_scan;
 typedef struct wz_recovery { wz_handle handle; } wz_recovery;
 typedef struct wz_batch { wz_handle handle; } wz_batch;
 #ifdef __cplusplus
@@ -153,7 +189,9 @@ typedef uint32_t wz_code;
 typedef uint32_t wz_why;
 typedef uint32_t wz_mode;
 typedef uint32_t wz_kind;
+typedef uint32_t wz_tag;
 typedef wz_handle wz_reader;
+typedef wz_handle wz_scan;
 typedef wz_handle wz_recovery;
 typedef wz_handle wz_batch;
 #define WZ_HANDLE_INIT {0, 0}
@@ -193,6 +231,10 @@ typedef struct wz_end { uint64_t at; wz_why why; uint64_t first; uint64_t second
 /* A record: the offset of its first fragment, the offset after its last one, and how many bytes the record has. */
 typedef struct wz_record { uint64_t start; uint64_t end; size_t len; } wz_record;
 
+/* A stretch of a log in which no record reads. It begins where the record before it ends, or where the scan began, and
+   ends where the next record begins. `end` is where and why reading first ended in it. */
+typedef struct wz_unread { uint64_t from; uint64_t to; wz_end end; } wz_unread;
+
 /* A recovery: how many records are kept, each of which is one batch; how many pairs they leave; the last sequence and
    the offset after the last record kept, each 0 where there is none; and where and why it ended. */
 typedef struct wz_recovered { size_t groups; size_t pairs; uint64_t last; uint64_t kept; wz_end end; } wz_recovered;
@@ -214,10 +256,29 @@ typedef struct wz_op {
   size_t value_len;
 } wz_op;
 
+/* A place in a log: the end of a record, or the log's start; and the last sequence up to there, 0 where there is none.
+   It starts as zeros. */
+typedef struct wz_place { uint64_t at; uint64_t last; } wz_place;
+
+/* An operation of a batch, of any kind: its tag, the column family that it names, or 0, how many sequences it takes
+   (one or none), how many strings it has (two at most), and where in the batch's bytes they are. Where it has no such
+   string, the place and the length are 0. */
+typedef struct wz_operation {
+  wz_tag tag;
+  uint32_t family;
+  uint32_t sequences;
+  uint32_t strings;
+  size_t first_at;
+  size_t first_len;
+  size_t second_at;
+  size_t second_len;
+} wz_operation;
+
 /* Frees what the handle holds. It holds nothing then. */
 void wz_close(wz_handle *handle) WZ_NONNULL(1);
 #ifndef WZ_OLD_NAMES
 static inline void wz_reader_close(wz_reader *reader) { wz_close(&reader->handle); }
+static inline void wz_scan_close(wz_scan *scan) { wz_close(&scan->handle); }
 static inline void wz_recovery_close(wz_recovery *recovery) { wz_close(&recovery->handle); }
 static inline void wz_batch_close(wz_batch *batch) { wz_close(&batch->handle); }
 #endif
@@ -251,10 +312,11 @@ uint32_t wz_crc32c_mask(uint32_t crc);
 WZ_ANSWER wz_code wz_reader_open(wz_reader *reader, uint32_t number) WZ_NONNULL(1);
 
 /* Opens a reader at a place of the log: the end of a record (record->end), or 0. So a log that grows is read on where
-   an earlier reader came to, and each record is read once. At any other place it reads what would be read if a record
-   ended there. The log's bytes are all of them, from its start on, and the same as at each later call of this reader.
-   WZ_DONE. WZ_RANGE: the log ends before the place. WZ_NO_MEMORY. At any answer except WZ_DONE the handle holds
-   nothing. */
+   an earlier reader ended, and each record is read once. At any other place it reads what would be read if a record
+   ended there: at a block's start, a multiple of WZ_BLOCK_LEN, the record that begins there, or where what is there
+   continues another record, the end WZ_WHY_BAD_ORDER. A scan goes on after that. The log's bytes are all of them, from
+   its start on, and the same as at each later call of this reader. WZ_DONE. WZ_RANGE: the log ends before the place.
+   WZ_NO_MEMORY. At any answer except WZ_DONE the handle holds nothing. */
 WZ_ANSWER wz_code wz_reader_open_at(wz_reader *reader, uint32_t number, uint64_t place, const void *log,
                                     size_t log_len) WZ_NONNULL(1);
 
@@ -276,6 +338,34 @@ WZ_ANSWER wz_code wz_reader_next_since(wz_reader *reader, uint64_t since, const 
    handle holds no reader. */
 WZ_ANSWER wz_code wz_reader_record(wz_reader *reader, void *buffer, size_t buffer_len) WZ_NONNULL(1);
 
+/* ---- reading a log also after damage ----
+   A scan finds the records of a log as a reader does, and where reading ends by damage it goes on after it, as `wzlog
+   scan` does: where the damaged fragment should end, or at the next block (WZ_BLOCK_LEN). What continues a record whose
+   beginning isn't there is skipped. If from the start of a block fragments follow one another that read, and the
+   last of them are one record, then a scan from the log's start finds that record, whatever is damaged elsewhere. What
+   is found after damage is there, and isn't recovered: between two records something may be missing, and what follows
+   damage may be of another history. */
+
+/* Opens a scan at a place of the log: the end of a record (record->end), or 0. So a log that grows is scanned on where
+   an earlier scan ended. At any other place it finds what would be found if a record ended there. The log's bytes are
+   all of them, from its start on, and the same as at each later call of this scan. WZ_DONE. WZ_RANGE: the log ends
+   before the place. WZ_NO_MEMORY. At any answer except WZ_DONE the handle holds nothing. */
+WZ_ANSWER wz_code wz_scan_open_at(wz_scan *scan, uint32_t number, uint64_t place, const void *log, size_t log_len)
+    WZ_NONNULL(1);
+
+/* Finds the next record of the log. The log's bytes must be the same at each call of this scan: a log that has grown
+   needs a new one. WZ_DONE: *record is the record, as wz_reader_next gives it, and it begins where the one before it
+   ends, or where the scan began; or only zeros that end a block are between. WZ_UNREAD: *record is the record, and
+   *unread is the stretch before it, in which no record reads. WZ_END: no record follows, and *end says at which offset
+   reading first ended since the last record, and why. WZ_NO_MEMORY. After WZ_END and WZ_NO_MEMORY each further call
+   answers the same. WZ_CLOSED: the handle holds no scan. */
+WZ_ANSWER wz_code wz_scan_next(wz_scan *scan, const void *log, size_t log_len, wz_record *record, wz_unread *unread,
+                               wz_end *end) WZ_NONNULL(1, 4, 5, 6);
+
+/* Copies the record that the last wz_scan_next found to the start of the buffer, and touches nothing after it. WZ_DONE.
+   WZ_SMALL. WZ_END: that call found none, or there was no such call yet. WZ_CLOSED: the handle holds no scan. */
+WZ_ANSWER wz_code wz_scan_record(wz_scan *scan, void *buffer, size_t buffer_len) WZ_NONNULL(1);
+
 /* ---- recovering a log ---- */
 
 /* Recovers a log: the batches before the first place that can't be read, or where a record is no batch or its
@@ -288,6 +378,17 @@ WZ_ANSWER wz_code wz_reader_record(wz_reader *reader, void *buffer, size_t buffe
    WZ_RANGE: there is no such mode. WZ_NO_MEMORY. At any answer except WZ_DONE the handle holds nothing. */
 WZ_ANSWER wz_code wz_recover(wz_recovery *recovery, uint32_t number, wz_mode mode, const void *log, size_t log_len,
                              wz_recovered *summary) WZ_NONNULL(1, 6);
+
+/* Moves a place of the log to the end of the last record that wz_recover keeps, where the log may be resumed; its last
+   sequence is the last one that is kept. No pair is made, and no more memory is taken than for a block and a record.
+   *place starts as zeros: the log's start. For a log that follows another one, which ended with WZ_WHY_CLEAN, it starts
+   at 0 with the last sequence of that one. Where it is what an earlier call left of a log that has grown, only what
+   came after it is read: the log's bytes are all of them nevertheless, from its start on. WZ_DONE: *end says where
+   recovery ends, and why; any end is accepted (WZ_MODE_POINT). WZ_RANGE: the log ends before the place. WZ_NO_MEMORY.
+   At the last two *place stays as it was. Whether the log is kept up to the place isn't looked at: from any other
+   place it is read as if it were. */
+WZ_ANSWER wz_code wz_recover_place(uint32_t number, const void *log, size_t log_len, wz_place *place, wz_end *end)
+    WZ_NONNULL(4, 5);
 
 /* The column family of a pair's key, and how many bytes its key and its value have. The pairs are by family, the
    default one (0) first, and in a family in the byte order of their keys, with indices from 0. WZ_DONE. WZ_END: there
@@ -304,6 +405,13 @@ WZ_ANSWER wz_code wz_pair(wz_recovery *recovery, size_t index, void *key, size_t
    is that of the next key's pair, or how many pairs there are. WZ_CLOSED: the handle holds no recovery. */
 WZ_ANSWER wz_code wz_pair_find(wz_recovery *recovery, uint32_t family, const void *key, size_t key_len, size_t *index)
     WZ_NONNULL(1, 5);
+
+/* Puts a recovery into another handle too, which may not be the same one. Each of the two is used by one thread at a
+   time, as ever: so several threads look up pairs at once, each by a handle of its own. Nothing is copied, and what was
+   recovered is freed with the last of these handles. What the other handle held before is freed. WZ_DONE: it holds the
+   recovery. WZ_NO_MEMORY. WZ_CLOSED: the first handle holds no recovery. At these two the other one holds nothing. The
+   first one holds what it held. */
+WZ_ANSWER wz_code wz_recovery_share(wz_recovery *recovery, wz_recovery *other) WZ_NONNULL(1, 2);
 
 /* ---- building a batch ---- */
 
@@ -356,12 +464,24 @@ WZ_ANSWER wz_code wz_batch_bytes(wz_batch *batch, void *buffer, size_t buffer_le
    wz_batch_next finds the place of a record that can't be read. */
 WZ_ANSWER wz_code wz_batch_read(const void *bytes, size_t len, wz_batch_head *head, wz_end *why) WZ_NONNULL(3, 4);
 
+/* What the header of a batch's bytes says, whatever comes after it: its sequence and its count, also where an operation
+   ends early or has a tag that isn't read, and where the count is another one than that of the operations. WZ_DONE.
+   WZ_NO_BATCH: there are fewer than WZ_BATCH_HEADER_LEN bytes. */
+WZ_ANSWER wz_code wz_batch_read_head(const void *bytes, size_t len, wz_batch_head *head) WZ_NONNULL(3);
+
 /* The record at the place *at of a batch's bytes. *at starts as WZ_BATCH_HEADER_LEN; at a place where no record begins
    the bytes are read as if one did. WZ_DONE: *op says what the record does and where in the bytes its key and its
    value are, and *at is moved to the place after it. WZ_END: the bytes end there. WZ_NO_BATCH: no record is there, and
    *why says why, with this place as the offset. WZ_RANGE: *at is past the end. Except at WZ_DONE *at stays as it was.
    Where a record has no value, op->value_at and op->value_len are 0. Nothing is copied, and no memory is taken. */
 WZ_ANSWER wz_code wz_batch_next(const void *bytes, size_t len, size_t *at, wz_op *op, wz_end *why) WZ_NONNULL(3, 4, 5);
+
+/* The operation at the place *at of a batch's bytes, as wz_batch_next gives a record, but of any kind that RocksDB
+   writes, also of those that wz_recover doesn't apply. WZ_DONE: *operation says what it is and where in the bytes its
+   strings are, and *at is moved to the place after it. The other answers are those of wz_batch_next; at WZ_NO_BATCH
+   with WZ_WHY_TAG it isn't known what follows the tag. */
+WZ_ANSWER wz_code wz_operation_next(const void *bytes, size_t len, size_t *at, wz_operation *operation, wz_end *why)
+    WZ_NONNULL(3, 4, 5);
 
 /* ---- writing a log ----
    The file is the caller's. The caller writes what these functions give at the log's end, syncs the file when that

@@ -99,6 +99,23 @@ static void print_end(wz_end end) {
     printf("%" PRIu64 " %" PRIu32 " %" PRIu64 " %" PRIu64 "\n", end.at, end.why, end.first, end.second);
 }
 
+// What the header of a batch's bytes says, and of which kinds its operations are.
+static void print_operations(const uint8_t *at, size_t len) {
+    wz_batch_head head = {0, 0};
+    wz_end why = {0, 0, 0, 0};
+    wz_operation found;
+    size_t place = WZ_BATCH_HEADER_LEN;
+    uint32_t code = wz_batch_read_head(at, len, &head);
+    printf("head %" PRIu32 " %" PRIu64 " %" PRIu32 "\n", code, head.sequence, head.count);
+    while ((code = wz_operation_next(at, len, &place, &found, &why)) == WZ_DONE) {
+        printf("operation %" PRIu32 " %" PRIu32 " %" PRIu32 " ", found.tag, found.family, found.sequences);
+        printf("%" PRIu32 " %zu %zu ", found.strings, found.first_at, found.first_len);
+        printf("%zu %zu\n", found.second_at, found.second_len);
+    }
+    printf("operations %" PRIu32 " %zu ", code, place);
+    print_end(why);
+}
+
 // What the library says of a batch's bytes, whatever they are: of all of them, and of each record up to where there is
 // none.
 static void print_batch(const uint8_t *at, size_t len) {
@@ -115,6 +132,7 @@ static void print_batch(const uint8_t *at, size_t len) {
     }
     printf("ops %" PRIu32 " %zu ", code, place);
     print_end(why);
+    print_operations(at, len);
 }
 
 static bool is_same_end(wz_end one, wz_end other) {
@@ -152,6 +170,89 @@ static void check_since(uint32_t number, uint64_t since, bytes log) {
     WANTED(code == WZ_END && is_same_end(again, end));
     wz_close(&one);
     wz_close(&other);
+}
+
+// How far the log is kept, without its pairs. It is the same in two steps, by what there was of the log before.
+static void answer_place(uint32_t number, bytes log) {
+    wz_place place = {0, 0}, step = {0, 0};
+    wz_end end = {0, 0, 0, 0}, again = {0, 0, 0, 0};
+    uint32_t code = wz_recover_place(number, log.at, log.len, &place, &end);
+    printf("place %" PRIu32 " %" PRIu64 " %" PRIu64 " ", code, place.at, place.last);
+    print_end(end);
+    for (size_t len = log.len / 2; len <= log.len; len += log.len - len > 9 ? (log.len - len) / 2 : 1) {
+        bytes front = room_for(len);
+        memcpy(front.at, log.at, len);
+        WANTED(wz_recover_place(number, front.at, front.len, &step, &again) == WZ_DONE && step.at <= len);
+        done_with(front);
+    }
+    WANTED(step.at == place.at && step.last == place.last && is_same_end(again, end));
+    step.at = log.len + 1;
+    again.at = 55;
+    WANTED(wz_recover_place(number, log.at, log.len, &step, &again) == WZ_RANGE);
+    WANTED(step.at == log.len + 1 && step.last == place.last && again.at == 55);
+}
+
+static bool is_same_unread(wz_unread one, wz_unread other) {
+    return one.from == other.from && one.to == other.to && is_same_end(one.end, other.end);
+}
+
+// What a scan has found: the stretch before a record, if it answered that there is one, and the record.
+static void print_found(wz_handle *scan, uint32_t code, wz_record record, wz_unread unread) {
+    bytes found = room_for(record.len);
+    if (record.len > 0) WANTED(wz_scan_record(scan, found.at, record.len - 1) == WZ_SMALL && found.at[0] == MARK);
+    WANTED(wz_scan_record(scan, found.at, record.len) == WZ_DONE);
+    if (code == WZ_UNREAD) {
+        printf("unread %" PRIu64 " %" PRIu64 " ", unread.from, unread.to);
+        print_end(unread.end);
+    }
+    printf("found %" PRIu64 " %" PRIu64 " ", record.start, record.end);
+    print_hex(found.at, found.len);
+    printf("\n");
+    done_with(found);
+}
+
+// Each record is found too by a scan from the end of the one before it.
+static void check_scan_from(uint32_t number, bytes log, uint64_t place, uint32_t code, wz_record record, wz_end end) {
+    wz_handle scan = WZ_HANDLE_INIT;
+    wz_record other = {0, 0, 0};
+    wz_unread unread = {0, 0, {0, 0, 0, 0}};
+    wz_end again = {0, 0, 0, 0};
+    WANTED(wz_scan_open_at(&scan, number, place, log.at, log.len) == WZ_DONE);
+    WANTED(wz_scan_next(&scan, log.at, log.len, &other, &unread, &again) == code);
+    if (code == WZ_END) WANTED(is_same_end(again, end));
+    if (code != WZ_END) WANTED(other.start == record.start && other.end == record.end && other.len == record.len);
+    if (code == WZ_UNREAD) WANTED(unread.from == place && unread.to == record.start);
+    wz_close(&scan);
+}
+
+// All that a scan finds of the log, and where it ends.
+static void answer_scan(uint32_t number, bytes log) {
+    wz_handle scan = WZ_HANDLE_INIT;
+    wz_record record = {0, 0, 0};
+    wz_unread unread = {1, 2, {3, 4, 5, 6}}, old = unread;
+    wz_end end = {1, 2, 3, 4}, again = {0, 0, 0, 0};
+    uint8_t byte = MARK;
+    uint64_t place = 0;
+    uint32_t code;
+    WANTED(wz_scan_open_at(&scan, number, log.len + 1, log.at, log.len) == WZ_RANGE);
+    WANTED(wz_scan_next(&scan, log.at, log.len, &record, &unread, &end) == WZ_CLOSED);
+    WANTED(wz_scan_open_at(&scan, number, 0, log.at, log.len) == WZ_DONE);
+    WANTED(wz_scan_record(&scan, &byte, 1) == WZ_END && byte == MARK);
+    while ((code = wz_scan_next(&scan, log.at, log.len, &record, &unread, &end)) == WZ_DONE || code == WZ_UNREAD) {
+        WANTED(end.at == 1 && end.why == 2 && end.first == 3 && end.second == 4);
+        if (code == WZ_DONE) WANTED(is_same_unread(unread, old));
+        print_found(&scan, code, record, unread);
+        check_scan_from(number, log, place, code, record, end);
+        place = record.end;
+        old = unread;
+    }
+    WANTED(code == WZ_END && wz_scan_next(&scan, log.at, log.len, &record, &unread, &again) == WZ_END);
+    WANTED(is_same_end(again, end) && is_same_unread(unread, old));
+    WANTED(wz_scan_record(&scan, &byte, 1) == WZ_END && byte == MARK);
+    check_scan_from(number, log, place, WZ_END, record, end);
+    printf("scanned ");
+    print_end(end);
+    wz_close(&scan);
 }
 
 static void answer_log(uint32_t number, uint32_t mode, bytes log) {
@@ -229,6 +330,8 @@ static void answer_log(uint32_t number, uint32_t mode, bytes log) {
         done_with(value);
     }
     wz_close(&handle);
+    answer_place(number, log);
+    answer_scan(number, log);
 }
 
 static void answer_text(uint32_t number, uint64_t offset, bytes record) {
@@ -320,7 +423,7 @@ static int answer(void) {
 }
 
 // What each function answers where the handle holds nothing, or something of another kind.
-static void check_other_kinds(wz_handle *handle, int is_reader, int is_recovery, int is_batch) {
+static void check_other_kinds(wz_handle *handle, int is_reader, int is_recovery, int is_batch, int is_scan) {
     uint8_t byte = MARK, other = MARK;
     wz_record record = {1, 2, 3};
     wz_end end = {1, 2, 3, 4};
@@ -331,6 +434,11 @@ static void check_other_kinds(wz_handle *handle, int is_reader, int is_recovery,
         WANTED(wz_reader_next(handle, &byte, 1, &record, &end) == WZ_CLOSED);
         WANTED(wz_reader_next_since(handle, 1, &byte, 1, &record, &end) == WZ_CLOSED);
         WANTED(wz_reader_record(handle, &byte, 1) == WZ_CLOSED);
+    }
+    if (!is_scan) {
+        wz_unread unread = {1, 2, {3, 4, 5, 6}}, same = unread;
+        WANTED(wz_scan_next(handle, &byte, 1, &record, &unread, &end) == WZ_CLOSED);
+        WANTED(wz_scan_record(handle, &byte, 1) == WZ_CLOSED && is_same_unread(unread, same));
     }
     if (!is_recovery) {
         WANTED(wz_pair_len(handle, 0, &lens) == WZ_CLOSED);
@@ -431,6 +539,13 @@ static void check_null_logs(wz_handle *handle) {
     WANTED(wz_reader_open(handle, 0) == WZ_DONE);
     WANTED(wz_reader_next(handle, log, len, &record, &end) == WZ_DONE && record.len == 0);
     WANTED(wz_reader_record(handle, NULL, 0) == WZ_DONE);
+    wz_unread unread = {1, 2, {3, 4, 5, 6}};
+    WANTED(wz_scan_open_at(handle, 0, 1, NULL, 0) == WZ_RANGE && wz_scan_open_at(handle, 0, 0, NULL, 0) == WZ_DONE);
+    WANTED(wz_scan_next(handle, NULL, 0, &record, &unread, &end) == WZ_END && end.at == 0 && end.why == WZ_CLEAN);
+    WANTED(wz_scan_record(handle, NULL, 0) == WZ_END);
+    WANTED(wz_scan_open_at(handle, 0, 0, log, len) == WZ_DONE);
+    WANTED(wz_scan_next(handle, log, len, &record, &unread, &end) == WZ_DONE && record.len == 0);
+    WANTED(wz_scan_record(handle, NULL, 0) == WZ_DONE);
 }
 
 // A null pointer with the length 0 means no bytes.
@@ -441,11 +556,16 @@ static void check_nulls(void) {
     wz_recovered found;
     wz_pair_lens lens;
     wz_op op;
+    wz_operation operation;
+    wz_place place = {0, 0};
     uint8_t log[128];
     size_t len = 0, at = 0, index;
     WANTED(wz_crc32c(NULL, 0) == wz_crc32c(log, 0) && wz_crc32c_extend(77, NULL, 0) == 77);
     WANTED(wz_batch_read(NULL, 0, &head, &end) == WZ_NO_BATCH && end.why == WZ_SHORT);
     WANTED(wz_batch_next(NULL, 0, &at, &op, &end) == WZ_END && at == 0);
+    WANTED(wz_operation_next(NULL, 0, &at, &operation, &end) == WZ_END && at == 0);
+    WANTED(wz_batch_read_head(NULL, 0, &head) == WZ_NO_BATCH);
+    WANTED(wz_recover_place(0, NULL, 0, &place, &end) == WZ_DONE && place.at == 0 && end.why == WZ_CLEAN);
     check_null_logs(&handle);
     bytes one = batch_of_nothing(NULL), other = batch_of_nothing(log);
     WANTED(one.len == other.len && !memcmp(one.at, other.at, one.len));
@@ -460,6 +580,47 @@ static void check_nulls(void) {
     wz_close(&handle);
 }
 
+// What isn't there leaves what it was to be told in as it was.
+static void check_operations(const uint8_t *batch, size_t len) {
+    wz_operation found = {1, 7, 2, 3, 4, 5, 6, 8}, old = found;
+    wz_batch_head head = {7, 8};
+    wz_end end = {55, 0, 0, 0};
+    size_t at = len + 1;
+    WANTED(wz_operation_next(batch, len, &at, &found, &end) == WZ_RANGE && at == len + 1);
+    at = SIZE_MAX;
+    WANTED(wz_operation_next(batch, len, &at, &found, &end) == WZ_RANGE && at == SIZE_MAX);
+    at = len;
+    WANTED(wz_operation_next(batch, len, &at, &found, &end) == WZ_END && at == len && end.at == 55);
+    at = len - 1;
+    WANTED(wz_operation_next(batch, len, &at, &found, &end) == WZ_NO_BATCH && at == len - 1);
+    WANTED(end.at == len - 1 && end.why == WZ_TAG && end.first == '1');
+    WANTED(!memcmp(&found, &old, sizeof old));
+    WANTED(wz_batch_read_head(batch, 11, &head) == WZ_NO_BATCH && head.sequence == 7 && head.count == 8);
+    WANTED(wz_batch_read_head(batch, 12, &head) == WZ_DONE && head.sequence == 1 && head.count == 1);
+}
+
+// A recovery in two handles stays as long as one of them holds it. Where there is none, nothing is shared.
+static void check_sharing(wz_handle *recovery) {
+    wz_handle other = WZ_HANDLE_INIT, third = WZ_HANDLE_INIT;
+    wz_pair_lens lens = {0, 0, 0};
+    size_t index;
+    WANTED(wz_batch_new(&third) == WZ_DONE && wz_batch_new(&other) == WZ_DONE);
+    WANTED(wz_recovery_share(&third, &other) == WZ_CLOSED);
+    check_other_kinds(&third, 0, 0, 1, 0);
+    check_other_kinds(&other, 0, 0, 0, 0);
+    WANTED(wz_recovery_share(&other, &third) == WZ_CLOSED);
+    check_other_kinds(&third, 0, 0, 0, 0);
+    WANTED(wz_recovery_share(recovery, &other) == WZ_DONE && wz_recovery_share(&other, &third) == WZ_DONE);
+    wz_close(&other);
+    WANTED(wz_pair_len(&third, 0, &lens) == WZ_DONE && lens.key_len == 1 && lens.value_len == 1);
+    WANTED(wz_pair_find(&third, 0, "a", 1, &index) == WZ_DONE && index == 0);
+    check_other_kinds(recovery, 0, 1, 0, 0);
+    // The first one goes, too.
+    WANTED(wz_recovery_share(&third, recovery) == WZ_DONE);
+    wz_close(&third);
+    WANTED(wz_pair_find(recovery, 0, "a", 1, &index) == WZ_DONE && index == 0);
+}
+
 static int calls(void) {
     static const uint8_t batch[] = {1, 0, 0, 0, 0, 0, 0, 0, 1, 0, 0, 0, 1, 1, 'a', 1, '1'};
     uint8_t log[64];
@@ -471,10 +632,10 @@ static int calls(void) {
     WANTED(wz_version() == WZ_VERSION);
     WANTED(wz_log_record(0, 0, batch, sizeof batch, log, sizeof log, &len) == WZ_DONE && len == 24);
 
-    check_other_kinds(&handle, 0, 0, 0);
+    check_other_kinds(&handle, 0, 0, 0, 0);
     wz_close(&handle);
     WANTED(wz_reader_open(&handle, 0) == WZ_DONE);
-    check_other_kinds(&handle, 1, 0, 0);
+    check_other_kinds(&handle, 1, 0, 0, 0);
     WANTED(wz_reader_next(&handle, log, len, &record, &end) == WZ_DONE && record.len == sizeof batch);
     WANTED(end.at == 0 && end.why == 0);
     // A handle may be moved.
@@ -485,34 +646,37 @@ static int calls(void) {
     WANTED(record.len == 5);
     wz_close(&moved);
     wz_close(&moved);
-    check_other_kinds(&moved, 0, 0, 0);
+    check_other_kinds(&moved, 0, 0, 0, 0);
 
     WANTED(wz_recover(&handle, 0, WZ_ABSOLUTE, log, len, &found) == WZ_DONE);
     WANTED(found.groups == 1 && found.pairs == 1 && found.last == 1 && found.kept == 24 && found.end.why == WZ_CLEAN);
-    check_other_kinds(&handle, 0, 1, 0);
+    check_other_kinds(&handle, 0, 1, 0, 0);
     check_no_pair(&handle, 1);
+    check_sharing(&handle);
     // A call that fails, since a log isn't accepted or doesn't exist, leaves a handle that holds nothing.
     WANTED(wz_recover(&handle, 0, WZ_ABSOLUTE, log, len - 1, &found) == WZ_DAMAGE);
     WANTED(found.groups == 0 && found.pairs == 0 && found.last == 0 && found.kept == 0);
     WANTED(found.end.at == 0 && found.end.why == WZ_BAD_LENGTH);
-    check_other_kinds(&handle, 0, 0, 0);
+    check_other_kinds(&handle, 0, 0, 0, 0);
     memset(&found, 7, sizeof found);
     wz_recovered old = found;
     WANTED(wz_reader_open(&handle, 1) == WZ_DONE);
     WANTED(wz_recover(&handle, 0, 3, log, len, &found) == WZ_RANGE && !memcmp(&found, &old, sizeof old));
-    check_other_kinds(&handle, 0, 0, 0);
+    check_other_kinds(&handle, 0, 0, 0, 0);
     WANTED(wz_recover(&handle, 0, WZ_TAIL, log, len - 1, &found) == WZ_DONE && found.groups == 0);
     check_no_pair(&handle, 0);
     WANTED(wz_recover(&handle, 9, WZ_POINT, log, len, &found) == WZ_DONE);
     WANTED(found.end.why == WZ_BAD_TYPE && found.end.first == 1);
 
     WANTED(wz_batch_new(&handle) == WZ_DONE);
-    check_other_kinds(&handle, 0, 0, 1);
+    check_other_kinds(&handle, 0, 0, 1, 0);
     WANTED(wz_batch_append(&handle, batch, sizeof batch) == WZ_DONE);
     check_large(&handle);
-    // A reader takes the batch's place, and frees it.
+    // A scan takes the batch's place, and frees it; then a reader takes that of the scan.
+    WANTED(wz_scan_open_at(&handle, 0, 0, log, len) == WZ_DONE);
+    check_other_kinds(&handle, 0, 0, 0, 1);
     WANTED(wz_reader_open(&handle, 0) == WZ_DONE);
-    check_other_kinds(&handle, 1, 0, 0);
+    check_other_kinds(&handle, 1, 0, 0, 0);
     wz_close(&handle);
 
     wz_op op = {1, 7, 2, 3, 4, 5};
@@ -524,6 +688,7 @@ static int calls(void) {
     at = sizeof batch;
     WANTED(wz_batch_next(batch, sizeof batch, &at, &op, &end) == WZ_END && at == sizeof batch);
     WANTED(op.kind == 1 && op.family == 7 && op.key_at == 2 && op.value_len == 5 && end.at == 55);
+    check_operations(batch, sizeof batch);
 
     WANTED(wz_log_record_len(0, 0, SIZE_MAX) == SIZE_MAX && wz_log_record_len(0, 0, SIZE_MAX - 7) == SIZE_MAX);
     WANTED(wz_log_record_len(7, UINT64_MAX, 0) == 12 && wz_log_record_len(0, UINT64_MAX, 0) == 8);
@@ -585,12 +750,43 @@ static uint32_t read_all(wz_handle *reader, bool is_since, uint32_t number, byte
     return code;
 }
 
+// Scans a log from its start.
+static uint32_t scan_all(wz_handle *scan, uint32_t number, bytes log) {
+    wz_record record = {1, 2, 3}, old = record;
+    wz_unread unread = {1, 2, {3, 4, 5, 6}};
+    wz_end end = {1, 2, 3, 4};
+    uint32_t code = wz_scan_open_at(scan, number, 0, log.at, log.len);
+    if (code != WZ_DONE) return code;
+    while ((code = wz_scan_next(scan, log.at, log.len, &record, &unread, &end)) == WZ_DONE || code == WZ_UNREAD) {
+        old = record;
+    }
+    if (code == WZ_END) return WZ_DONE;
+    WANTED(record.start == old.start && record.end == old.end && record.len == old.len && end.at == 1 && end.why == 2);
+    granted = -1;
+    WANTED(wz_scan_next(scan, log.at, log.len, &record, &unread, &end) == WZ_NO_MEMORY);
+    granted = 0;
+    return code;
+}
+
 static uint32_t recover_all(wz_handle *recovery, uint32_t number, bytes log) {
     wz_recovered found, old;
     memset(&found, 7, sizeof found);
     old = found;
-    uint32_t code = wz_recover(recovery, number, WZ_POINT, log.at, log.len, &found);
+    wz_handle first = WZ_HANDLE_INIT;
+    uint32_t code = wz_recover(&first, number, WZ_POINT, log.at, log.len, &found);
     if (code != WZ_DONE) WANTED(!memcmp(&found, &old, sizeof old));
+    if (code == WZ_DONE) code = wz_recovery_share(&first, recovery);
+    else wz_close(recovery);
+    wz_close(&first);
+    return code;
+}
+
+// The place stays where memory is refused.
+static uint32_t recover_place(uint32_t number, bytes log) {
+    wz_place place = {0, 0};
+    wz_end end = {1, 2, 3, 4};
+    uint32_t code = wz_recover_place(number, log.at, log.len, &place, &end);
+    if (code != WZ_DONE) WANTED(place.at == 0 && place.last == 0 && end.at == 1 && end.why == 2);
     return code;
 }
 
@@ -603,7 +799,7 @@ static int memory(void) {
     uint32_t number = (uint32_t)strtoul(words[1], NULL, 10);
     bytes log = bytes_of_hex(words[3]);
     long before = held;
-    for (int kind = 0; kind < 4; kind++) {
+    for (int kind = 0; kind < 6; kind++) {
         long refused = 0;
         for (int is_all_granted = 0; !is_all_granted; refused++) {
             // What the handle held before is freed by a call that fails, too.
@@ -614,16 +810,19 @@ static int memory(void) {
             uint32_t code = kind == 0   ? read_all(&handle, false, number, log)
                             : kind == 1 ? recover_all(&handle, number, log)
                             : kind == 2 ? grow_batch(&handle)
-                                        : read_all(&handle, true, number, log);
+                            : kind == 3 ? read_all(&handle, true, number, log)
+                            : kind == 4 ? recover_place(number, log)
+                                        : scan_all(&handle, number, log);
             // A refused allocation has counted to -1.
             is_all_granted = granted > 0 || (granted == 0 && code == WZ_DONE);
             WANTED(code == (is_all_granted ? WZ_DONE : WZ_NO_MEMORY));
             granted = -1;
-            if (code != WZ_DONE && kind == 1) check_other_kinds(&handle, 0, 0, 0);
+            if (code != WZ_DONE && kind == 1) check_other_kinds(&handle, 0, 0, 0, 0);
             wz_close(&handle);
             WANTED(held == before);
         }
-        WANTED(refused > 3);
+        // Without pairs, there is only the reader.
+        WANTED(refused > (kind == 4 ? 1 : 3));
     }
     done_with(log);
     __real_free(line);

@@ -7,6 +7,7 @@ int main(void) {
     wz_reader reader = WZ_HANDLE_INIT;
     wz_recovery recovery = WZ_HANDLE_INIT;
     wz_batch batch = WZ_HANDLE_INIT;
+    wz_scan scan = WZ_HANDLE_INIT;
     wz_pair_lens lens = {0, 0, 0};
     wz_recovered found;
     wz_code code = wz_recover(&recovery, 0, WZ_MODE_POINT, "", 0, &found);
@@ -30,7 +31,10 @@ int main(void) {
     code = wz_pair_len(&recovery, 0, NULL);
 #elif MISTAKE == 9 // what is const
     code = wz_batch_bytes(&batch, (const void *)"a", 1);
+#elif MISTAKE == 10 // a reader as a scan
+    code = wz_scan_record(&reader, NULL, 0);
 #endif
+    wz_scan_close(&scan);
     wz_batch_close(&batch);
     wz_recovery_close(&recovery);
     wz_reader_close(&reader);

@@ -2,49 +2,73 @@
 
    print_log LOG [NUMBER]
 
-   NUMBER is the log's own, where its fragments have one. Keys and values are printed in hexadecimal, `-` for none,
-   after the number of the column family that an operation names. The last line says where reading ended, and for which
+   NUMBER is the log's own, where its fragments have one. Operations of every kind are printed, with their strings in
+   hexadecimal, `-` for none, after the number of the column family that they name. The last line says where reading ended, and for which
    of the reasons of docs/RECOVERY.md, with its two numbers. */
 #include "wolzenn.h"
 
 #include <inttypes.h>
+#include <stdbool.h>
 #include <stdio.h>
 #include <stdlib.h>
 
 static void print_bytes(const uint8_t *bytes, size_t len) {
+    printf(" ");
     for (size_t i = 0; i < len; i++) printf("%02x", bytes[i]);
     if (len == 0) printf("-");
 }
 
-static const char *name_of(wz_kind kind) {
-    if (kind == WZ_KIND_VALUE || kind == WZ_KIND_VALUE_CF) return "put";
-    if (kind == WZ_KIND_DELETION || kind == WZ_KIND_DELETION_CF) return "del";
-    return kind == WZ_KIND_LOG_DATA ? "note" : "sdel";
-}
+/* What an operation of each tag is called, and whether it names a family. */
+static const struct {
+    const char *word;
+    bool names_family;
+} KINDS[] = {
+    [WZ_TAG_DELETION] = {"del", false},
+    [WZ_TAG_VALUE] = {"put", false},
+    [WZ_TAG_MERGE] = {"merge", false},
+    [WZ_TAG_LOG_DATA] = {"note", false},
+    [WZ_TAG_DELETION_CF] = {"del", true},
+    [WZ_TAG_VALUE_CF] = {"put", true},
+    [WZ_TAG_MERGE_CF] = {"merge", true},
+    [WZ_TAG_SINGLE_DELETION] = {"sdel", false},
+    [WZ_TAG_SINGLE_DELETION_CF] = {"sdel", true},
+    [WZ_TAG_BEGIN_PREPARE] = {"beginprepare", false},
+    [WZ_TAG_END_PREPARE] = {"endprepare", false},
+    [WZ_TAG_COMMIT] = {"commit", false},
+    [WZ_TAG_ROLLBACK] = {"rollback", false},
+    [WZ_TAG_NOTHING] = {"noop", false},
+    [WZ_TAG_RANGE_DELETION_CF] = {"deleterange", true},
+    [WZ_TAG_RANGE_DELETION] = {"deleterange", false},
+    [WZ_TAG_BLOB_INDEX_CF] = {"blobindex", true},
+    [WZ_TAG_BLOB_INDEX] = {"blobindex", false},
+    [WZ_TAG_BEGIN_PERSISTED_PREPARE] = {"beginpersistedprepare", false},
+    [WZ_TAG_BEGIN_UNPREPARE] = {"beginunprepare", false},
+    [WZ_TAG_COMMIT_WITH_TIMESTAMP] = {"committimestamp", false},
+    [WZ_TAG_WIDE_COLUMNS] = {"putentity", false},
+    [WZ_TAG_WIDE_COLUMNS_CF] = {"putentity", true},
+    [WZ_TAG_VALUE_WITH_TIME] = {"timedput", false},
+    [WZ_TAG_VALUE_WITH_TIME_CF] = {"timedput", true},
+};
 
-static int names_family(wz_kind kind) {
-    return kind == WZ_KIND_VALUE_CF || kind == WZ_KIND_DELETION_CF || kind == WZ_KIND_SINGLE_DELETION_CF;
-}
-
-/* Prints the operations of the batch that a record holds, up to the first that can't be read. */
+/* Prints what the batch of a record says of itself, and its operations, up to the first that can't be read. */
 static void print_batch(const uint8_t *bytes, size_t len) {
     wz_batch_head head;
     wz_end why;
-    wz_op op;
-    wz_code code = wz_batch_read(bytes, len, &head, &why);
+    wz_operation found;
+    uint64_t sequences = 0;
+    wz_code code = wz_batch_read_head(bytes, len, &head);
     if (code == WZ_DONE) printf("  batch %" PRIu64 " %" PRIu32 "\n", head.sequence, head.count);
     size_t at = WZ_BATCH_HEADER_LEN;
-    while (code == WZ_DONE && (code = wz_batch_next(bytes, len, &at, &op, &why)) == WZ_DONE) {
-        printf("  %s ", name_of(op.kind));
-        if (names_family(op.kind)) printf("%" PRIu32 " ", op.family);
-        print_bytes(bytes + op.key_at, op.key_len);
-        if (op.kind == WZ_KIND_VALUE || op.kind == WZ_KIND_VALUE_CF) {
-            printf(" ");
-            print_bytes(bytes + op.value_at, op.value_len);
-        }
+    while (code == WZ_DONE && (code = wz_operation_next(bytes, len, &at, &found, &why)) == WZ_DONE) {
+        printf("  %s", KINDS[found.tag].word);
+        if (KINDS[found.tag].names_family) printf(" %" PRIu32, found.family);
+        if (found.strings > 0) print_bytes(bytes + found.first_at, found.first_len);
+        if (found.strings > 1) print_bytes(bytes + found.second_at, found.second_len);
         printf("\n");
+        sequences += found.sequences;
     }
-    if (code == WZ_NO_BATCH) printf("  no batch: %s\n", wz_why_text(why.why));
+    if (code == WZ_NO_BATCH) printf("  no batch: %s\n", len < WZ_BATCH_HEADER_LEN ? "short" : wz_why_text(why.why));
+    else if (sequences != head.count) printf("  no batch: count\n");
 }
 
 /* The whole file in memory, or null. */

@@ -9,7 +9,8 @@ import threading
 import unittest
 
 import wolzenn
-from wolzenn import Batch, BatchHead, End, Kind, LogWriter, Mode, Op, Pair, Records, Why
+from wolzenn import Batch, BatchHead, End, Kind, LogWriter, Mode, Op, Operation, Pair, Place, Records, Scan, Tag
+from wolzenn import Unread, Why
 
 
 def built(sequence, *additions):
@@ -51,6 +52,17 @@ class Reading(unittest.TestCase):
         with self.assertRaises(wolzenn.PastEnd):
             Records(LOG, place=len(LOG) + 1)
 
+    def test_a_place_that_advances(self):
+        place = Place()
+        self.assertEqual(place.advance(LOG[:-1]).at, next(Records(LOG)).end)
+        self.assertEqual((place.at, place.last), (next(Records(LOG)).end, 2))
+        self.assertEqual(place.advance(LOG), End(len(LOG), Why.CLEAN))
+        with wolzenn.recover(LOG) as recovery:
+            self.assertEqual((place.at, place.last), (recovery.kept, recovery.last))
+        with self.assertRaises(wolzenn.PastEnd):
+            place.advance(LOG[:-1])
+        self.assertEqual((place.at, place.last), (len(LOG), 4))
+
     def test_a_log_with_a_number(self):
         log = log_of(ONE, number=7)
         self.assertEqual([it.bytes for it in Records(log, 7)], [ONE])
@@ -63,6 +75,25 @@ class Reading(unittest.TestCase):
         self.assertEqual(len(list(records)), 1)
         self.assertEqual(records.end.why, Why.BAD_LENGTH)
         self.assertEqual(list(Records(b"")), [])
+
+    def test_a_scan_past_damage(self):
+        first, log = next(Records(LOG)), bytearray(LOG)
+        log[first.end - 1] ^= 1
+        scan = Scan(log)
+        [(unread, record)] = scan
+        self.assertEqual(unread, Unread(0, first.end, End(0, Why.BAD_CHECKSUM)))
+        self.assertEqual((record.start, record.bytes), (first.end, TWO))
+        self.assertEqual(scan.end, End(len(LOG), Why.CLEAN))
+        # From a place on, and with nothing that is damaged.
+        self.assertEqual([it for it in Scan(LOG, place=first.end)], [(None, record)])
+        self.assertEqual([it.bytes for _, it in Scan(LOG)], [ONE, TWO])
+        log.append(0)
+        with self.assertRaises(wolzenn.PastEnd):
+            Scan(LOG, place=len(LOG) + 1)
+        with Scan(LOG[:-1]) as cut:
+            self.assertEqual(next(cut), (None, first))
+        with self.assertRaises(ValueError):
+            next(cut)
 
     def test_a_map_that_is_only_read(self):
         with tempfile.TemporaryFile() as file:
@@ -148,6 +179,22 @@ class Batches(unittest.TestCase):
             Op(Kind.LOG_DATA, 0, b"note", None),
         ]
         self.assertEqual(list(wolzenn.operations(data)), says)
+
+    def test_operations_of_all_kinds(self):
+        data = bytes(8) + b"\1\0\0\0" + b"\x06\xac\x02\1k\1+" + b"\x0b\3xid" + b"\x0d"
+        says = [
+            Operation(Tag.MERGE_CF, 300, 1, (b"k", b"+")),
+            Operation(Tag.COMMIT, 0, 0, (b"xid",)),
+            Operation(Tag.NOTHING, 0, 0, ()),
+        ]
+        self.assertEqual(list(wolzenn.all_operations(data)), says)
+        self.assertEqual(wolzenn.batch_head(data), BatchHead(0, 1))
+        self.assertIsNone(wolzenn.batch_head(data[:11]))
+        for cut, end in ((data + b"\x14", End(len(data), Why.TAG, 0x14)), (data[:16], End(12, Why.SHORT))):
+            with self.assertRaises(wolzenn.NoBatch) as raised:
+                list(wolzenn.all_operations(cut))
+            self.assertEqual(raised.exception.end, end)
+            self.assertEqual(wolzenn.batch_head(cut), BatchHead(0, 1))
 
     def test_a_group(self):
         with Batch(9) as group, Batch(1) as member:
@@ -253,6 +300,21 @@ class Others(unittest.TestCase):
         thread.start()
         thread.join()
         self.assertEqual((len(raised), batch.count), (1, 0))
+
+    def test_a_recovery_that_threads_share(self):
+        found, recovery = [], wolzenn.recover(LOG)
+
+        def look_up(mine):
+            with mine:
+                found.append([mine.get(b"c") for _ in range(100)])
+
+        threads = [threading.Thread(target=look_up, args=[recovery.share()]) for _ in range(4)]
+        recovery.close()
+        for thread in threads:
+            thread.start()
+        for thread in threads:
+            thread.join()
+        self.assertEqual(found, [[b"3"] * 100] * 4)
 
     def test_memory_is_given_back(self):
         def pages():

@@ -21,8 +21,8 @@ may change them during a call, nor those of a log while its `Records` are read. 
 fragments have one (RocksDB's `recycle_log_file_num`), and 0 where they have none, as in LevelDB's logs and most of
 RocksDB's.
 
-A batch, a recovery and records stay on the thread that made them: elsewhere a call raises `RuntimeError`. Each may be
-closed, or used in a `with`; otherwise that is done once nobody uses it any more, on that thread.
+A batch, a recovery, records and a scan are used on the thread that made them: elsewhere a call raises `RuntimeError`.
+Each may be closed, or used in a `with`; otherwise that is done once nobody uses it any more.
 
 If there is no memory, `MemoryError` is raised; whatever else isn't done raises a subclass of `Error`.
 """
@@ -34,9 +34,10 @@ import threading
 from typing import NamedTuple
 
 __all__ = [
-    *("Batch", "BatchHead", "Damage", "End", "Error", "Kind", "LogWriter", "Mode", "NoBatch", "Op", "Pair", "PastEnd"),
-    *("Record", "Records", "Recovery", "TooLarge", "Why", "crc32c", "crc32c_mask", "operations", "read_batch"),
-    *("record_bytes", "recover", "BATCH_HEADER_LEN", "BLOCK_LEN", "MAX_BATCH"),
+    *("Batch", "BatchHead", "Damage", "End", "Error", "Kind", "LogWriter", "Mode", "NoBatch", "Op", "Operation"),
+    *("Pair", "PastEnd", "Place", "Record", "Records", "Recovery", "Scan", "Tag", "TooLarge", "Unread", "Why"),
+    *("all_operations", "batch_head", "crc32c", "crc32c_mask", "operations", "read_batch", "record_bytes", "recover"),
+    *("BATCH_HEADER_LEN", "BLOCK_LEN", "MAX_BATCH"),
 ]
 
 BLOCK_LEN = 32_768
@@ -48,7 +49,10 @@ BATCH_HEADER_LEN = 12
 MAX_BATCH = 16_777_216
 """The most bytes of a `Batch`."""
 
-_VERSION = 3
+_VERSION = 6
+
+# The number of the binary interface, which the shared library's name has.
+_ABI = 3
 
 
 class Why(enum.IntEnum):
@@ -96,6 +100,37 @@ class Kind(enum.IntEnum):
     SINGLE_DELETION_CF = 8
 
 
+class Tag(enum.IntEnum):
+    """What an operation of a batch is, of all kinds that RocksDB writes (`ValueType` of its db/dbformat.h). Those with
+    CF name the column family that they are about."""
+
+    DELETION = 0x00
+    VALUE = 0x01
+    MERGE = 0x02
+    LOG_DATA = 0x03
+    DELETION_CF = 0x04
+    VALUE_CF = 0x05
+    MERGE_CF = 0x06
+    SINGLE_DELETION = 0x07
+    SINGLE_DELETION_CF = 0x08
+    BEGIN_PREPARE = 0x09
+    END_PREPARE = 0x0A
+    COMMIT = 0x0B
+    ROLLBACK = 0x0C
+    NOTHING = 0x0D
+    RANGE_DELETION_CF = 0x0E
+    RANGE_DELETION = 0x0F
+    BLOB_INDEX_CF = 0x10
+    BLOB_INDEX = 0x11
+    BEGIN_PERSISTED_PREPARE = 0x12
+    BEGIN_UNPREPARE = 0x13
+    COMMIT_WITH_TIMESTAMP = 0x15
+    WIDE_COLUMNS = 0x16
+    WIDE_COLUMNS_CF = 0x17
+    VALUE_WITH_TIME = 0x18
+    VALUE_WITH_TIME_CF = 0x19
+
+
 class End(NamedTuple):
     """Where reading or recovery ended, and why, with the reason's own two numbers, which are 0 where it has none."""
 
@@ -121,6 +156,15 @@ class Record(NamedTuple):
     bytes: bytes
 
 
+class Unread(NamedTuple):
+    """A stretch of a log in which no record reads: from the end of a record, or from where the scan began, up to where
+    the next record begins; and where and why reading first ended there."""
+
+    start: int
+    stop: int
+    end: End
+
+
 class Pair(NamedTuple):
     """A key that a log recovers, with its column family, whose number is 0 for the default one, and its value."""
 
@@ -143,6 +187,16 @@ class Op(NamedTuple):
     family: int
     key: bytes
     value: "bytes | None"
+
+
+class Operation(NamedTuple):
+    """An operation of a batch, of any kind: its tag, the column family that it names, or 0, how many sequences it takes
+    (one or none), and its strings: none, one or two."""
+
+    tag: Tag
+    family: int
+    sequences: int
+    strings: "tuple[bytes, ...]"
 
 
 class Error(Exception):
@@ -191,6 +245,13 @@ class _Record(ctypes.Structure):
     _fields_ = [("start", ctypes.c_uint64), ("end", ctypes.c_uint64), ("len", ctypes.c_size_t)]
 
 
+class _Unread(ctypes.Structure):
+    _fields_ = [("start", ctypes.c_uint64), ("stop", ctypes.c_uint64), ("end", _End)]
+
+    def told(self):
+        return Unread(self.start, self.stop, self.end.told())
+
+
 class _Recovered(ctypes.Structure):
     _fields_ = [
         *(("groups", ctypes.c_size_t), ("pairs", ctypes.c_size_t)),
@@ -213,9 +274,20 @@ class _Op(ctypes.Structure):
     ]
 
 
+class _Place(ctypes.Structure):
+    _fields_ = [("at", ctypes.c_uint64), ("last", ctypes.c_uint64)]
+
+
+class _Operation(ctypes.Structure):
+    _fields_ = [
+        *((it, ctypes.c_uint32) for it in ("tag", "family", "sequences", "strings")),
+        *((it, ctypes.c_size_t) for it in ("first_at", "first_len", "second_at", "second_len")),
+    ]
+
+
 def _load():
     """The shared library, with the types of its functions."""
-    name, here = f"libwolzenn.so.{_VERSION}", os.path.dirname(os.path.realpath(__file__))
+    name, here = f"libwolzenn.so.{_ABI}", os.path.dirname(os.path.realpath(__file__))
     folder = os.environ.get("WOLZENN_LIB")
     if folder:
         library = ctypes.CDLL(os.path.join(folder, name))
@@ -235,10 +307,14 @@ def _load():
         "reader_next": [handle, *data, ctypes.POINTER(_Record), end],
         "reader_next_since": [handle, u64, *data, ctypes.POINTER(_Record), end],
         "reader_record": [handle, *data],
+        "scan_open_at": [handle, u32, u64, *data],
+        "scan_next": [handle, *data, ctypes.POINTER(_Record), ctypes.POINTER(_Unread), end],
+        "scan_record": [handle, *data],
         "recover": [handle, u32, u32, *data, ctypes.POINTER(_Recovered)],
         "pair_len": [handle, size, ctypes.POINTER(_PairLens)],
         "pair": [handle, size, *data, *data],
         "pair_find": [handle, u32, *data, place],
+        "recovery_share": [handle, handle],
         "batch_new": [handle],
         "batch_put_cf": [handle, u32, *data, *data],
         "batch_delete_cf": [handle, u32, *data],
@@ -252,6 +328,9 @@ def _load():
         "batch_bytes": [handle, *data],
         "batch_read": [*data, ctypes.POINTER(_BatchHead), end],
         "batch_next": [*data, place, ctypes.POINTER(_Op), end],
+        "batch_read_head": [*data, ctypes.POINTER(_BatchHead)],
+        "operation_next": [*data, place, ctypes.POINTER(_Operation), end],
+        "recover_place": [u32, *data, ctypes.POINTER(_Place), end],
         "log_record_len": [u32, u64, size],
         "log_record": [u32, u64, *data, *data, place],
     }
@@ -267,7 +346,7 @@ def _load():
 
 _library = _load()
 
-_DONE, _NO_MEMORY, _CLOSED, _SMALL, _END, _TOO_LARGE, _DAMAGE, _NO_BATCH, _RANGE = range(9)
+_DONE, _NO_MEMORY, _CLOSED, _SMALL, _END, _TOO_LARGE, _DAMAGE, _NO_BATCH, _RANGE, _UNREAD = range(10)
 
 
 def _answer(code, *answers):
@@ -338,14 +417,16 @@ def _within(number, bits, what):
 
 
 class _Held:
-    """A handle that holds something, on the thread that made it."""
+    """A handle that holds something. It is used on the thread that made it, so that no two threads use it at once."""
 
     def __init__(self):
+        # Another thread may be the first to use it, where that is said.
         self._handle, self._thread = _Handle(), threading.get_ident()
 
     def _own(self):
         """The handle, for a call."""
-        if self._thread != threading.get_ident():
+        # One step, so that of two threads that are the first to use it at once only one goes on.
+        if self.__dict__.setdefault("_thread", threading.get_ident()) != threading.get_ident():
             raise RuntimeError("this is used on another thread than the one that made it")
         if self._handle is None:
             raise ValueError("this is closed")
@@ -364,8 +445,8 @@ class _Held:
         self.close()
 
     def __del__(self):
-        # The library's handles stay on their thread; where this is another one the memory is never freed.
-        if getattr(self, "_handle", None) is not None and self._thread == threading.get_ident():
+        # Nobody uses it any more, so any thread may free it.
+        if getattr(self, "_handle", None) is not None and _library is not None:
             _library.wz_close(self._handle)
 
 
@@ -418,6 +499,49 @@ class Records(_Held):
             self._log.close()
 
 
+class Scan(_Held):
+    """The records of a log, also those after damage, from its first on, or after `place`: the end of a record, or 0. So
+    of a log that grows each record is found once at most: `log` is then all that it has by now, from its start on.
+
+    It is an iterator of pairs: the stretch before a record in which none reads, an `Unread`, or None if there is no
+    such stretch; and the `Record`. Once there is no next one, `end` says where and why reading first ended since the
+    last record. What comes after a stretch is there, and isn't recovered: something may be missing before it. PastEnd
+    if the log ends before the place.
+    """
+
+    def __init__(self, log, number=0, place=0):
+        super().__init__()
+        self.end, self._log = None, None
+        words = (_within(number, 32, "the number of a log"), _within(place, 64, "a place"))
+        self._log = _Bytes(log)
+        code = _library.wz_scan_open_at(self._own(), *words, self._log.at, self._log.len)
+        if _answer(code, _RANGE) == _RANGE:
+            self.close()
+            raise PastEnd("the log ends before this place")
+
+    def __iter__(self):
+        return self
+
+    def __next__(self):
+        if self.end is not None:
+            raise StopIteration
+        scan, record, unread, end = self._own(), _Record(), _Unread(), _End()
+        code = _library.wz_scan_next(scan, self._log.at, self._log.len, record, unread, end)
+        if _answer(code, _END, _UNREAD) == _END:
+            self.end = end.told()
+            self.close()
+            raise StopIteration
+        room = _room(record.len)
+        _answer(_library.wz_scan_record(scan, ctypes.addressof(room), record.len))
+        return unread.told() if code == _UNREAD else None, Record(record.start, record.end, room.raw)
+
+    def close(self):
+        """Frees the scan, and lets go of the log. That is done too once there is no next record."""
+        super().close()
+        if self._log is not None:
+            self._log.close()
+
+
 # ---- recovery
 
 
@@ -455,6 +579,17 @@ class Recovery(_Held):
         _answer(_library.wz_pair(self._own(), index, *rooms))
         return Pair(lens.family, key.raw, value.raw)
 
+    def share(self):
+        """The same recovery once more, for the thread that uses it first. Nothing is copied: what was recovered is freed
+        with the last of them."""
+        other = Recovery.__new__(Recovery)
+        _Held.__init__(other)
+        _answer(_library.wz_recovery_share(self._own(), other._handle))
+        other.groups, other.last, other.kept = self.groups, self.last, self.kept
+        other.end, other._len = self.end, self._len
+        del other._thread
+        return other
+
     def find(self, key, family=0):
         """The index of the key's pair, or of the next one where it has none; and whether it has one."""
         index = ctypes.c_size_t()
@@ -475,6 +610,28 @@ def recover(log, number=0, mode=Mode.POINT):
     """Recovers a log: the batches before the first place that can't be read, or where a record is no batch or its
     sequences don't rise or are too high. Damage where the mode doesn't accept the end."""
     return Recovery(log, number, mode)
+
+
+class Place:
+    """A place in a log: the end of a record, or the log's start; and the last sequence up to there, 0 where there is
+    none. It begins at the start."""
+
+    def __init__(self, at=0, last=0):
+        self.at, self.last = _within(at, 64, "a place"), _within(last, 64, "a sequence")
+
+    def advance(self, log, number=0):
+        """Moves it to the end of the last record that `recover` keeps, where the log may be resumed, and answers where
+        recovery ends. No pairs are made. Of a log that has grown since the last call only what came after that is read;
+        `log` is nevertheless all that it has by now. PastEnd if the log ends before the place, which stays then.
+        Whether the log is kept up to the place isn't looked at: from any other place it is read as if it were."""
+        place, end = _Place(self.at, self.last), _End()
+        with _Bytes(log) as data:
+            number = _within(number, 32, "the number of a log")
+            code = _library.wz_recover_place(number, data.at, data.len, place, end)
+        if _answer(code, _RANGE) == _RANGE:
+            raise PastEnd("the log ends before this place")
+        self.at, self.last = place.at, place.last
+        return end.told()
 
 
 # ---- batches
@@ -586,6 +743,35 @@ def operations(data):
             if kind in (Kind.VALUE, Kind.VALUE_CF):
                 value = bytes(view[op.value_at : op.value_at + op.value_len])
             yield Op(kind, op.family, bytes(view[op.key_at : op.key_at + op.key_len]), value)
+    if code == _NO_BATCH:
+        raise NoBatch(why.told())
+    if code == _RANGE:
+        # There are fewer bytes than a header has.
+        raise NoBatch(End(0, Why.SHORT))
+
+
+def batch_head(data):
+    """What the header of a batch's bytes says, its sequence and its count, whatever comes after it: also where
+    `read_batch` raises NoBatch. None where there are fewer bytes than a header has."""
+    head = _BatchHead()
+    with _Bytes(data) as it:
+        code = _library.wz_batch_read_head(it.at, it.len, head)
+    return BatchHead(head.sequence, head.count) if _answer(code, _NO_BATCH) == _DONE else None
+
+
+def all_operations(data):
+    """Gives the operations of a batch's bytes one by one, of all kinds that RocksDB writes, as `operations` gives those
+    that recovery applies. NoBatch where it isn't known what comes next, and then no more."""
+    place, found, why = ctypes.c_size_t(BATCH_HEADER_LEN), _Operation(), _End()
+    with _Bytes(data) as it:
+        view = memoryview(data).cast("B")
+        while True:
+            code = _library.wz_operation_next(it.at, it.len, place, found, why)
+            if _answer(code, _END, _NO_BATCH, _RANGE) != _DONE:
+                break
+            spans = [(found.first_at, found.first_len), (found.second_at, found.second_len)][: found.strings]
+            strings = tuple(bytes(view[at : at + length]) for at, length in spans)
+            yield Operation(Tag(found.tag), found.family, found.sequences, strings)
     if code == _NO_BATCH:
         raise NoBatch(why.told())
     if code == _RANGE:

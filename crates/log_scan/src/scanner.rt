@@ -2,6 +2,7 @@
 
 ghost use Rattle.std.specs.Prelude.{◌≡◌, ◌<◌, ◌≤◌, ◌^◌, ℕ, List, None, length, vec_len, IfOk, IfErr, IfSome, OnOk};
 ghost use Rattle.base_devices.specs.Faults.{Rose};
+ghost use Rattle.log_reader.specs.Opens.{IsOpenError};
 ghost use Rattle.model_base.specs.Reading.{ReadingEnds};
 ghost use Rattle.log_scan.specs.declared.scanner.Found.TheVariants.{Record};
 ghost use Rattle.log_scan.specs.Scanning as scanning;
@@ -107,6 +108,38 @@ impl Scanner {
             block: block_room(alloc)?,
             place: 0,
             here: 0,
+            lost: None,
+        })
+    }
+
+    /// A scanner of a log with this number, if it has one, which begins at an offset: the end of a record that was found
+    /// before, or any other place at which a record may begin. It reads the block that has the place.
+    pub fn open_at<R: ReadAt>(
+        alloc: Global,
+        number: Option<u32>,
+        goes_on: bool,
+        place: u64,
+        disk: &mut R,
+    ) -> Result<Scanner, OpenError>
+        requires small { place < 2 ^ 63 }
+        ensures goes_on { IfOk result (λ s. s.goes_on ≡ goes_on) }
+        ensures number { IfOk result (λ s. s.number ≡ number) }
+        ensures start { IfOk result (λ s. s.place ≡ place) }
+        ensures going { IfOk result IsGoing }
+        ensures is_at { IfSome (R.held disk.old) (λ file. place ≤ length file → IfOk result (IsAt file)) }
+        ensures worked { OnOk result (R.failures disk.new ≡ R.failures disk.old) }
+        ensures error { IfErr result (IsOpenError (R.failures disk.old) (R.failures disk.new)) }
+        ensures disk { R.only_reads disk.old disk.new }
+    {
+        let block = block_room(alloc)?;
+        let reader = LogReader::open_at(alloc, number, place, disk)?;
+        Ok(Scanner {
+            goes_on,
+            number,
+            reader,
+            block,
+            place,
+            here: place,
             lost: None,
         })
     }

@@ -1,5 +1,6 @@
-pub mod InOrder
+pub mod LogPlaces
+pub mod OneOperation
+pub mod OperationPlaces
 pub mod Passing
 pub mod Places
-pub mod Skipping
 pub mod Values

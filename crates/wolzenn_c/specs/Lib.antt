@@ -2,12 +2,12 @@ pub mod Additions
 pub mod BatchBytes
 pub mod Batches
 pub mod Buffers
-pub mod Faults
 pub mod Holding
-pub mod InOrder
+pub mod LogPlaces
 pub mod Objects
+pub mod Operations
 pub mod PairCalls
 pub mod ReaderCalls
-pub mod Readings
 pub mod Reasons
 pub mod Recoveries
+pub mod ScanCalls

@@ -4,7 +4,7 @@ use Rattle.model_base.specs.declared.key.Key.{Key}
 use Rattle.model_base.specs.Map.{Pairs, value_at}
 use Rattle.wolzenn_c.specs.declared.codes.TheConstants.{DONE, SMALL, END}
 use Rattle.wolzenn_c.specs.Buffers.{begun_with}
-use Rattle.wolzenn_c.specs.InOrder.{keys_before}
+use Rattle.log_in_memory.specs.InOrder.{keys_before}
 use Rattle.wolzenn_c.specs.declared.pairs.WzPairLens.{WzPairLens}
 
 -- the family of a pair's key, and how many bytes its key and its value have

@@ -6,8 +6,8 @@ use Rattle.log_reader.specs.Reader.{Follows}
 use Rattle.wolzenn_c.specs.declared.codes.TheConstants.{DONE, END, NO_MEMORY}
 use Rattle.wolzenn_c.specs.declared.codes.WzEnd.{WzEnd}
 use Rattle.wolzenn_c.specs.declared.reader.WzRecord.{WzRecord}
-use Rattle.wolzenn_c.specs.declared.reading.Reading.{Reading}
-use Rattle.wolzenn_c.specs.Readings.{number_of, ReadsOn, ReadsSince}
+use Rattle.log_in_memory.specs.declared.reading.Reading.{Reading}
+use Rattle.log_in_memory.specs.Readings.{number_of, ReadsOn, ReadsSince}
 use Rattle.wolzenn_c.specs.Reasons.{end_of}
 
 -- a reader of a log with this number, or with none where it is 0: at the log's start, not stopped, and with no record

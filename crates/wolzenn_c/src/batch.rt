@@ -191,7 +191,7 @@ fn add(alloc: Global, handle: &mut WzHandle, addition: Addition<'_>) -> u32
     };
     let code = match &mut *object {
         Object::Batch(batch) => add_to(batch, addition),
-        Object::Reader(_) | Object::Recovery(_) => CLOSED,
+        Object::Reader(_) | Object::Scan(_) | Object::Recovery(_) => CLOSED,
     };
     handle.put(alloc, object);
     code
@@ -237,7 +237,7 @@ pub extern "C" fn wz_batch_clear(alloc: Global, handle: &mut WzHandle) -> u32
             batch.clear();
             DONE
         }
-        Object::Reader(_) | Object::Recovery(_) => CLOSED,
+        Object::Reader(_) | Object::Scan(_) | Object::Recovery(_) => CLOSED,
     };
     handle.put(alloc, object);
     code
@@ -257,7 +257,7 @@ pub extern "C" fn wz_batch_set_sequence(alloc: Global, handle: &mut WzHandle, se
             batch.set_sequence(sequence);
             DONE
         }
-        Object::Reader(_) | Object::Recovery(_) => CLOSED,
+        Object::Reader(_) | Object::Scan(_) | Object::Recovery(_) => CLOSED,
     };
     handle.put(alloc, object);
     code
@@ -279,7 +279,7 @@ pub extern "C" fn wz_batch_get(alloc: Global, handle: &mut WzHandle, head: &mut 
             head.count = batch.count();
             DONE
         }
-        Object::Reader(_) | Object::Recovery(_) => CLOSED,
+        Object::Reader(_) | Object::Scan(_) | Object::Recovery(_) => CLOSED,
     };
     handle.put(alloc, object);
     code
@@ -300,7 +300,7 @@ pub extern "C" fn wz_batch_len(alloc: Global, handle: &mut WzHandle, len: &mut u
             *len = batch.bytes().len();
             DONE
         }
-        Object::Reader(_) | Object::Recovery(_) => CLOSED,
+        Object::Reader(_) | Object::Scan(_) | Object::Recovery(_) => CLOSED,
     };
     handle.put(alloc, object);
     code
@@ -320,7 +320,7 @@ pub extern "C" fn wz_batch_bytes(alloc: Global, handle: &mut WzHandle, buffer: &
     };
     let code = match &*object {
         Object::Batch(batch) => copy_to(batch.bytes(), buffer),
-        Object::Reader(_) | Object::Recovery(_) => CLOSED,
+        Object::Reader(_) | Object::Scan(_) | Object::Recovery(_) => CLOSED,
     };
     handle.put(alloc, object);
     code

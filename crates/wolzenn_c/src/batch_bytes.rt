@@ -195,7 +195,7 @@ fn op_of_key(kind: u32, family: u32, key: &[u8], end: usize) -> WzOp
 }
 
 /// The reason for which bytes are no batch, as a reason for which a log ends.
-fn reason_of(error: BatchError) -> EndReason
+pub fn reason_of(error: BatchError) -> EndReason
     ensures { result ≡ log_reason error }
 {
     match error {

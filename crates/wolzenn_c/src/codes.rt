@@ -32,6 +32,9 @@ pub const NO_BATCH: u32 = 7;
 /// A number is none of those that the function takes.
 pub const RANGE: u32 = 8;
 
+/// A record was found, and before it a stretch in which none reads.
+pub const UNREAD: u32 = 9;
+
 /// At which offset something ended, why, and the reason's own numbers.
 #[repr(C)]
 #[derive(Clone, Copy, Debug, Drop)]

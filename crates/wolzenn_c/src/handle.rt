@@ -7,7 +7,7 @@ use crate::object::Object;
 use std::alloc::Global;
 
 /// The number of the library's version, the same as that of its header.
-const VERSION: u32 = 3;
+const VERSION: u32 = 6;
 
 /// A handle, which holds an object or nothing. Zeros are a handle that holds nothing.
 ///
@@ -87,10 +87,23 @@ impl WzHandle {
     }
 }
 
+/// A handle may go to another thread: it is a law of its type.
+pub fn handle_crosses(handle: WzHandle) -> WzHandle
+    ensures { result ≡ handle }
+{
+    crossing(handle)
+}
+
+fn crossing<T: Send>(it: T) -> T
+    ensures { result ≡ it }
+{
+    it
+}
+
 /// The library's version.
 #[unsafe(no_mangle)]
 pub extern "C" fn wz_version() -> u32
-    ensures { result ≡ 3 }
+    ensures { result ≡ 6 }
 {
     VERSION
 }

@@ -6,7 +6,7 @@ ghost use Rattle.wolzenn_c.specs.declared.object.Object.{Object as Obj};
 
 use crate::object::Object;
 use std::alloc::Global;
-use std::marker::Model;
+use std::marker::{Model, Send};
 
 /// An object on the heap, or nothing. Contracts see which, as `object`.
 ///
@@ -23,6 +23,9 @@ impl Model for Held {
 
     ghost also_owns = { λ h. held_owns the_row h.at h.object };
 }
+
+// It may go to another thread: the block behind it is the heap's, and nothing in it belongs to a thread.
+unsafe impl Send for Held {}
 
 impl Held {
     /// A `Held` that holds nothing.

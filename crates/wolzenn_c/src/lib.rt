@@ -1,9 +1,9 @@
 //! The proved crates for programs in C, C++ and Rust: the functions of `library/wolzenn.h`.
 //!
-//! - `checksum`, `reader`, `recovery`, `pairs`, `batch`, `batch_bytes`, `log_record`, `handle`: the functions, by kind
+//! - `checksum`, `reader`, `scan`, `recovery`, `sharing`, `log_place`, `pairs`, `batch`, `batch_bytes`, `operations`,
+//!   `log_record`, `handle`: the functions, by kind
 //! - `codes`: the numbers that they answer
 //! - `handle`, `held`, `object`: what a handle holds, behind a pointer that C can keep
-//! - `reading`, `recovery_pairs`: a reader of bytes in memory, and the pairs of a recovery
 //! - `buffer`: copies to a buffer of the caller
 #![tactic(auto)]
 
@@ -14,10 +14,12 @@ mod checksum;
 mod codes;
 mod handle;
 mod held;
+mod log_place;
 mod log_record;
 mod object;
+mod operations;
 mod pairs;
 mod reader;
-mod reading;
 mod recovery;
-mod recovery_pairs;
+mod scan;
+mod sharing;

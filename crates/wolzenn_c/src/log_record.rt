@@ -4,10 +4,10 @@
 ghost use Rattle.std.specs.Prelude.{◌≡◌, ◌≢◌, ℕ, List, length, min};
 ghost use Rattle.model_base.specs.Log.{record_text};
 ghost use Rattle.wolzenn_c.specs.Buffers.{Copies};
-ghost use Rattle.wolzenn_c.specs.Readings.{number_of};
+ghost use Rattle.log_in_memory.specs.Readings.{number_of};
 
 use crate::codes::{DONE, SMALL};
-use crate::reading::log_number;
+use log_in_memory::log_number;
 use log_text::{lay_record, text_len};
 
 /// How many bytes a record of this length takes at this offset of a log. Where they are more than a `usize` can say,

@@ -2,19 +2,22 @@
 
 ghost use Rattle.std.specs.Prelude.{◌≡◌, Some};
 ghost use Rattle.std.specs.Option.{option_map};
-ghost use Rattle.wolzenn_c.specs.Objects.{as_reader, as_recovery};
+ghost use Rattle.wolzenn_c.specs.Objects.{as_reader, as_recovery, as_scan};
 
-use crate::reading::Reading;
-use crate::recovery_pairs::RecoveryPairs;
 use log_batch::Batch;
+use log_in_memory::{Reading, RecoveryPairs, Scan};
+use std::alloc::Global;
+use std::sync::Arc;
 
 /// What a handle can hold.
 #[derive(Drop)]
 pub enum Object {
     /// A reader of a log.
     Reader(Reading),
-    /// The pairs that were recovered from a log.
-    Recovery(RecoveryPairs),
+    /// A scan of a log, which goes on after damage.
+    Scan(Scan),
+    /// The pairs that were recovered from a log. Handles may share them: nobody changes them.
+    Recovery(Arc<RecoveryPairs, Global>),
     /// A batch that is being built.
     Batch(Batch),
 }
@@ -26,7 +29,17 @@ impl Object {
     {
         match self {
             Object::Reader(reading) => Some(reading),
-            Object::Recovery(_) | Object::Batch(_) => None,
+            Object::Scan(_) | Object::Recovery(_) | Object::Batch(_) => None,
+        }
+    }
+
+    /// The scan, if it is one.
+    pub fn scan(&self) -> Option<&Scan>
+        ensures { option_map (λ s. s.now) result ≡ as_scan (Some self.now) }
+    {
+        match self {
+            Object::Scan(scan) => Some(scan),
+            Object::Reader(_) | Object::Recovery(_) | Object::Batch(_) => None,
         }
     }
 
@@ -35,8 +48,8 @@ impl Object {
         ensures { option_map (λ r. r.now.pairs.items) result ≡ as_recovery (Some self.now) }
     {
         match self {
-            Object::Recovery(recovery) => Some(recovery),
-            Object::Reader(_) | Object::Batch(_) => None,
+            Object::Recovery(recovery) => Some(&**recovery),
+            Object::Reader(_) | Object::Scan(_) | Object::Batch(_) => None,
         }
     }
 }

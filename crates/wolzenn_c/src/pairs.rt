@@ -8,7 +8,7 @@ ghost use Rattle.wolzenn_c.specs.PairCalls.{CopiesPair, Finds, lens_of};
 use crate::buffer::put;
 use crate::codes::{CLOSED, DONE, END, SMALL};
 use crate::handle::WzHandle;
-use crate::recovery_pairs::{RecoveryPairs, order};
+use log_in_memory::{RecoveryPairs, order};
 use std::alloc::Global;
 
 /// The column family of a pair's key, and how many bytes its key and its value have.

@@ -10,7 +10,7 @@ use crate::buffer::copy_to;
 use crate::codes::{CLOSED, DONE, END, NO_MEMORY, RANGE, WzEnd, end_of};
 use crate::handle::WzHandle;
 use crate::object::Object;
-use crate::reading::Reading;
+use log_in_memory::Reading;
 use log_reader::Next;
 use std::alloc::Global;
 
@@ -104,7 +104,7 @@ pub extern "C" fn wz_reader_next(
     };
     let code = match &mut *object {
         Object::Reader(reading) => next_of(reading, log, found, end),
-        Object::Recovery(_) | Object::Batch(_) => CLOSED,
+        Object::Scan(_) | Object::Recovery(_) | Object::Batch(_) => CLOSED,
     };
     handle.put(alloc, object);
     code
@@ -142,7 +142,7 @@ pub extern "C" fn wz_reader_next_since(
     };
     let code = match &mut *object {
         Object::Reader(reading) => next_since_of(reading, since, log, found, end),
-        Object::Recovery(_) | Object::Batch(_) => CLOSED,
+        Object::Scan(_) | Object::Recovery(_) | Object::Batch(_) => CLOSED,
     };
     handle.put(alloc, object);
     code

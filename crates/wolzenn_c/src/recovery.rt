@@ -1,20 +1,20 @@
 //! Recovery of a log.
 
-ghost use Rattle.std.specs.Prelude.{◌≡◌, ◌≢◌, ℕ, Err, None, IfOk, IfErr, MatchOption};
+ghost use Rattle.std.specs.Prelude.{◌≡◌, ◌≢◌, ℕ, Err, Some, None, IfOk, IfErr, IfSome, MatchOption};
 ghost use Rattle.log_recovery.specs.declared.recovery.RecoverError.TheVariants.{Fault};
 ghost use Rattle.log_recovery.specs.Modes.{TellsDamage};
 ghost use Rattle.wolzenn_c.specs.Objects.{as_recovery};
-ghost use Rattle.wolzenn_c.specs.Readings.{number_of};
+ghost use Rattle.log_in_memory.specs.Readings.{number_of};
 ghost use Rattle.wolzenn_c.specs.Recoveries.{mode_of as mode_with, IsRecovery, Recovers};
 
 use crate::codes::{DAMAGE, DONE, NO_MEMORY, RANGE, WzEnd, end_of};
 use crate::handle::WzHandle;
 use crate::object::Object;
-use crate::reading::log_number;
-use crate::recovery_pairs::RecoveryPairs;
 use base_devices::SliceDisk;
+use log_in_memory::{RecoveryPairs, log_number};
 use log_recovery::{Mode, RecoverError, recover_mode};
 use std::alloc::Global;
+use std::sync::Arc;
 
 /// What was recovered, in numbers: how many batches, how many pairs of key and value they leave, the last sequence and
 /// the offset after the last batch that is kept (each is 0 where there is none), and where and why recovery ended.
@@ -58,7 +58,7 @@ pub extern "C" fn wz_recover(
     };
     match recovered(alloc, log_number(number), mode, log) {
         Ok((pairs, told)) => {
-            let Ok(object) = Box::new(alloc, Object::Recovery(pairs)) else {
+            let Some(object) = object_of(alloc, pairs) else {
                 return NO_MEMORY;
             };
             handle.put(alloc, object);
@@ -78,6 +78,14 @@ pub extern "C" fn wz_recover(
         Err(RecoverError::NoMemory) => NO_MEMORY,
         Err(RecoverError::Fault { .. }) => unreachable!(),
     }
+}
+
+/// These pairs as an object, if there is memory for it.
+fn object_of(alloc: Global, pairs: RecoveryPairs) -> Option<Box<Object>>
+    ensures { IfSome result (λ object. as_recovery (Some object.value) ≡ Some pairs.pairs.items) }
+{
+    let shared = Arc::new(alloc, pairs).ok()?;
+    Box::new(alloc, Object::Recovery(shared)).ok()
 }
 
 /// The mode with this number, if there is one.

@@ -2,26 +2,36 @@
 
     print_log.py LOG [NUMBER]
 
-NUMBER is the log's own, where its fragments have one. Keys and values are printed in hexadecimal, `-` for none, after
-the number of the column family that an operation names. The last line says where reading ended, and why.
+NUMBER is the log's own, where its fragments have one. Operations of every kind are printed, with their strings in
+hexadecimal, `-` for none, after the number of the column family that they name. The last line says where reading ended,
+and why.
 """
 
 import sys
 
 import wolzenn
-from wolzenn import Kind
 
-NAMES = {Kind.VALUE: "put", Kind.VALUE_CF: "put", Kind.DELETION: "del", Kind.DELETION_CF: "del", Kind.LOG_DATA: "note"}
+# The words of tags that aren't called by their names.
+WORDS = {
+    **{"VALUE": "put", "DELETION": "del", "SINGLE_DELETION": "sdel", "LOG_DATA": "note", "NOTHING": "noop"},
+    **{"RANGE_DELETION": "deleterange", "WIDE_COLUMNS": "putentity", "VALUE_WITH_TIME": "timedput"},
+    "COMMIT_WITH_TIMESTAMP": "committimestamp",
+}
 
 
 def print_batch(data):
-    """Prints the operations of the batch that a record holds."""
-    head = wolzenn.read_batch(data)
-    print("  batch", head.sequence, head.count)
-    for op in wolzenn.operations(data):
-        family = [op.family] if op.kind.name.endswith("_CF") else []
-        strings = [op.key] if op.value is None else [op.key, op.value]
-        print(" ", NAMES.get(op.kind, "sdel"), *family, *(it.hex() or "-" for it in strings))
+    """Prints what the batch of a record says of itself, and its operations, up to the first that can't be read."""
+    head, sequences = wolzenn.batch_head(data), 0
+    if head:
+        print("  batch", head.sequence, head.count)
+    for it in wolzenn.all_operations(data):
+        name = it.tag.name.removesuffix("_CF")
+        family = [it.family] if it.tag.name != name else []
+        word = WORDS.get(name, name.replace("_", "").lower())
+        print(" ", word, *family, *(string.hex() or "-" for string in it.strings))
+        sequences += it.sequences
+    if head and head.count != sequences:
+        print("  no batch: count")
 
 
 def main():

@@ -2,12 +2,13 @@
 //!
 //!     print_log LOG [NUMBER]
 //!
-//! NUMBER is the log's own, where its fragments have one. Keys and values are printed in hexadecimal, `-` for none,
-//! after the number of the column family that an operation names. The last line says where reading ended, and why.
+//! NUMBER is the log's own, where its fragments have one. Operations of every kind are printed, with their strings in
+//! hexadecimal, `-` for none, after the number of the column family that they name. The last line says where reading
+//! ended, and why.
 
 use std::error::Error;
 use std::num::NonZeroU32;
-use wolzenn::{read_batch, BatchRecords, Op, Records};
+use wolzenn::{batch_head, Operation, Operations, Records};
 
 fn hex(bytes: &[u8]) -> String {
     if bytes.is_empty() {
@@ -16,22 +17,34 @@ fn hex(bytes: &[u8]) -> String {
     bytes.iter().map(|byte| format!("{byte:02x}")).collect()
 }
 
-/// Prints the operations of the batch that a record holds.
+/// The words for tags from 0 on, with a star where the operation names a family.
+const KINDS: [&str; 26] = [
+    "del", "put", "merge", "note", "del*", "put*", "merge*", "sdel", "sdel*", "beginprepare", "endprepare", "commit",
+    "rollback", "noop", "deleterange*", "deleterange", "blobindex*", "blobindex", "beginpersistedprepare",
+    "beginunprepare", "", "committimestamp", "putentity", "putentity*", "timedput", "timedput*",
+];
+
+fn print_operation(operation: &Operation) {
+    let kind = KINDS[usize::from(operation.tag)];
+    let family = kind.ends_with('*').then(|| format!(" {}", operation.family)).unwrap_or_default();
+    let strings = [operation.first, operation.second].into_iter().flatten().map(|it| format!(" {}", hex(it)));
+    println!("  {}{family}{}", kind.trim_end_matches('*'), strings.collect::<String>());
+}
+
+/// Prints what the batch of a record says of itself, and its operations, up to the first that can't be read.
 fn print_batch(bytes: &[u8]) -> Result<(), wolzenn::Error> {
-    let head = read_batch(bytes)?;
-    println!("  batch {} {}", head.sequence, head.count);
-    for op in BatchRecords::new(bytes) {
-        match op? {
-            Op::Put(key, value) => println!("  put {} {}", hex(key), hex(value)),
-            Op::Delete(key) => println!("  del {}", hex(key)),
-            Op::SingleDelete(key) => println!("  sdel {}", hex(key)),
-            Op::PutCf(family, key, value) => println!("  put {family} {} {}", hex(key), hex(value)),
-            Op::DeleteCf(family, key) => println!("  del {family} {}", hex(key)),
-            Op::SingleDeleteCf(family, key) => println!("  sdel {family} {}", hex(key)),
-            Op::LogData(blob) => println!("  note {}", hex(blob)),
-            // Kinds that a later version may know.
-            other => println!("  {other:?}"),
-        }
+    let head = batch_head(bytes);
+    if let Some(head) = head {
+        println!("  batch {} {}", head.sequence, head.count);
+    }
+    let mut sequences = 0;
+    for operation in Operations::new(bytes) {
+        let operation = operation?;
+        print_operation(&operation);
+        sequences += u64::from(operation.sequences);
+    }
+    if head.is_some_and(|head| u64::from(head.count) != sequences) {
+        println!("  no batch: count");
     }
     Ok(())
 }

@@ -138,28 +138,82 @@ impl<'a> BatchRecords<'a> {
     }
 }
 
-impl<'a> Iterator for BatchRecords<'a> {
-    type Item = Result<Op<'a>, Error>;
-
-    fn next(&mut self) -> Option<Result<Op<'a>, Error>> {
-        let at = self.at?;
-        match raw::next_op(self.bytes, at) {
-            Step::Op(op, next) => {
-                self.at = Some(next);
-                Some(Ok(op))
-            }
-            Step::End => None,
-            Step::NoBatch(end) => {
-                self.at = None;
-                Some(Err(Error::NoBatch(end)))
-            }
-            // There are fewer bytes than a header has.
-            Step::Past => {
-                self.at = None;
-                Some(Err(Error::NoBatch(End { at: 0, why: Why::Short })))
-            }
+/// What the iterators give for a step, from which they go on or end.
+fn item_of<T>(step: Step<T>, at: &mut Option<usize>) -> Option<Result<T, Error>> {
+    match step {
+        Step::Op(op, next) => {
+            *at = Some(next);
+            Some(Ok(op))
+        }
+        Step::End => None,
+        Step::NoBatch(end) => {
+            *at = None;
+            Some(Err(Error::NoBatch(end)))
+        }
+        // There are fewer bytes than a header has.
+        Step::Past => {
+            *at = None;
+            Some(Err(Error::NoBatch(End { at: 0, why: Why::Short })))
         }
     }
 }
 
+impl<'a> Iterator for BatchRecords<'a> {
+    type Item = Result<Op<'a>, Error>;
+
+    fn next(&mut self) -> Option<Result<Op<'a>, Error>> {
+        let step = raw::next_op(self.bytes, self.at?);
+        item_of(step, &mut self.at)
+    }
+}
+
 impl FusedIterator for BatchRecords<'_> {}
+
+/// What the header of a batch's bytes says, whatever comes after it: also where [`read_batch`] gives an error. `None`
+/// where there are fewer bytes than a header has.
+pub fn batch_head(bytes: &[u8]) -> Option<BatchHead> {
+    raw::batch_head(bytes)
+}
+
+/// An operation of a batch, of any kind that RocksDB writes, also of those that recovery doesn't apply. Its strings are
+/// those that `wz_tag` of the header `wolzenn.h` names: the key and the value of a merge, say, or a transaction's name.
+#[derive(Clone, Copy, Debug, PartialEq, Eq)]
+#[non_exhaustive]
+pub struct Operation<'a> {
+    /// What it is: `ValueType` of RocksDB's db/dbformat.h.
+    pub tag: u8,
+    /// The column family that it names. It is 0, which is the default one, where it names none.
+    pub family: u32,
+    /// How many sequences it takes: one or none.
+    pub sequences: u32,
+    /// Its first string, if it has one.
+    pub first: Option<&'a [u8]>,
+    /// Its second string, if it has two.
+    pub second: Option<&'a [u8]>,
+}
+
+/// The operations of a batch's bytes, of all kinds, as [`BatchRecords`] gives those that recovery applies. Where it
+/// isn't known what comes next they give an error, and nothing more after it.
+#[derive(Clone, Debug)]
+pub struct Operations<'a> {
+    bytes: &'a [u8],
+    at: Option<usize>,
+}
+
+impl<'a> Operations<'a> {
+    /// The operations after the header.
+    pub fn new(bytes: &'a [u8]) -> Operations<'a> {
+        Operations { bytes, at: Some(BATCH_HEADER_LEN) }
+    }
+}
+
+impl<'a> Iterator for Operations<'a> {
+    type Item = Result<Operation<'a>, Error>;
+
+    fn next(&mut self) -> Option<Result<Operation<'a>, Error>> {
+        let step = raw::next_operation(self.bytes, self.at?);
+        item_of(step, &mut self.at)
+    }
+}
+
+impl FusedIterator for Operations<'_> {}

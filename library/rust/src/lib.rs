@@ -19,7 +19,7 @@
 //! A log is borrowed bytes, so it is in memory as a whole. `number` is the log's number where its fragments have one
 //! (RocksDB's `recycle_log_file_num`), and `None` where they have none, as in LevelDB's logs and most of RocksDB's.
 //!
-//! A reader, a recovery and a batch stay on the thread that made them.
+//! A reader, a scan, a recovery and a batch may go to another thread, but not be shared by threads.
 
 #![deny(unsafe_code)]
 #![warn(missing_docs)]
@@ -31,13 +31,15 @@ mod error;
 mod raw;
 mod reading;
 mod recovery;
+mod scanning;
 mod writing;
 
-pub use batch::{read_batch, Batch, BatchHead, BatchRecords, Op};
+pub use batch::{batch_head, read_batch, Batch, BatchHead, BatchRecords, Op, Operation, Operations};
 pub use checksum::{crc32c, crc32c_extend, crc32c_mask};
 pub use error::{End, Error, Why};
 pub use reading::{Record, Records};
-pub use recovery::{recover, Mode, Pair, Pairs, Recovery};
+pub use recovery::{recover, Mode, Pair, Pairs, Place, Recovery};
+pub use scanning::{Scan, Scanned, Unread};
 pub use writing::LogWriter;
 
 /// The bytes of a log's block.

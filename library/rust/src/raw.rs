@@ -1,6 +1,6 @@
 //! The library's functions, and what makes each of them safe to call. No other module has `unsafe`.
 
-use crate::{BatchHead, End, Error, Mode, Op, Why};
+use crate::{BatchHead, End, Error, Mode, Op, Operation, Place, Unread, Why};
 use std::cell::UnsafeCell;
 use std::ffi::c_void;
 use std::fmt;
@@ -14,6 +14,7 @@ const TOO_LARGE: u32 = 5;
 const DAMAGE: u32 = 6;
 const NO_BATCH: u32 = 7;
 const RANGE: u32 = 8;
+const UNREAD: u32 = 9;
 
 const DELETION: u32 = 0;
 const VALUE: u32 = 1;
@@ -44,6 +45,14 @@ struct RawRecord {
     start: u64,
     end: u64,
     len: usize,
+}
+
+#[repr(C)]
+#[derive(Default)]
+struct RawUnread {
+    from: u64,
+    to: u64,
+    end: RawEnd,
 }
 
 #[repr(C)]
@@ -82,6 +91,25 @@ struct RawOp {
     value_len: usize,
 }
 
+#[repr(C)]
+struct RawPlace {
+    at: u64,
+    last: u64,
+}
+
+#[repr(C)]
+#[derive(Default)]
+struct RawOperation {
+    tag: u32,
+    family: u32,
+    sequences: u32,
+    strings: u32,
+    first_at: usize,
+    first_len: usize,
+    second_at: usize,
+    second_len: usize,
+}
+
 extern "C" {
     fn wz_close(handle: *mut RawHandle);
     fn wz_crc32c(bytes: *const u8, len: usize) -> u32;
@@ -105,6 +133,16 @@ extern "C" {
         end: *mut RawEnd,
     ) -> u32;
     fn wz_reader_record(handle: *mut RawHandle, buffer: *mut u8, buffer_len: usize) -> u32;
+    fn wz_scan_open_at(handle: *mut RawHandle, number: u32, place: u64, log: *const u8, log_len: usize) -> u32;
+    fn wz_scan_next(
+        handle: *mut RawHandle,
+        log: *const u8,
+        log_len: usize,
+        record: *mut RawRecord,
+        unread: *mut RawUnread,
+        end: *mut RawEnd,
+    ) -> u32;
+    fn wz_scan_record(handle: *mut RawHandle, buffer: *mut u8, buffer_len: usize) -> u32;
     fn wz_recover(
         handle: *mut RawHandle,
         number: u32,
@@ -129,6 +167,7 @@ extern "C" {
         key_len: usize,
         index: *mut usize,
     ) -> u32;
+    fn wz_recovery_share(handle: *mut RawHandle, other: *mut RawHandle) -> u32;
     fn wz_batch_new(handle: *mut RawHandle) -> u32;
     fn wz_batch_put(handle: *mut RawHandle, key: *const u8, key_len: usize, value: *const u8, value_len: usize)
         -> u32;
@@ -153,6 +192,21 @@ extern "C" {
     fn wz_batch_bytes(handle: *mut RawHandle, buffer: *mut u8, buffer_len: usize) -> u32;
     fn wz_batch_read(bytes: *const u8, len: usize, head: *mut RawBatchHead, why: *mut RawEnd) -> u32;
     fn wz_batch_next(bytes: *const u8, len: usize, at: *mut usize, op: *mut RawOp, why: *mut RawEnd) -> u32;
+    fn wz_batch_read_head(bytes: *const u8, len: usize, head: *mut RawBatchHead) -> u32;
+    fn wz_operation_next(
+        bytes: *const u8,
+        len: usize,
+        at: *mut usize,
+        operation: *mut RawOperation,
+        why: *mut RawEnd,
+    ) -> u32;
+    fn wz_recover_place(
+        number: u32,
+        log: *const u8,
+        log_len: usize,
+        place: *mut RawPlace,
+        end: *mut RawEnd,
+    ) -> u32;
     fn wz_log_record_len(number: u32, offset: u64, len: usize) -> usize;
     fn wz_log_record(
         number: u32,
@@ -207,11 +261,14 @@ fn end_of(raw: &RawEnd) -> End {
     End { at: raw.at, why }
 }
 
-/// A handle that holds a reader, a recovery or a batch. It isn't `Sync`, so no two calls use it at once, and no
+/// A handle that holds a reader, a scan, a recovery or a batch. It isn't `Sync`, so no two calls use it at once, and no
 /// function of the library calls back. So a call has the handle to itself, also where it is shared here.
 pub(crate) struct Handle {
     raw: UnsafeCell<RawHandle>,
 }
+
+// SAFETY: that nothing in a handle belongs to a thread is proved (`handle_crosses` of the crate `wolzenn_c`).
+unsafe impl Send for Handle {}
 
 /// What reading on gives.
 pub(crate) enum Next {
@@ -219,8 +276,14 @@ pub(crate) enum Next {
     End(End),
 }
 
+/// What a scan finds next.
+pub(crate) enum Found {
+    Record { unread: Option<Unread>, start: u64, end: u64, len: usize },
+    End(End),
+}
+
 /// What the library says about a recovery.
-#[derive(Debug)]
+#[derive(Clone, Debug)]
 pub(crate) struct Summary {
     pub groups: usize,
     pub pairs: usize,
@@ -291,6 +354,42 @@ impl Handle {
         wanted(code, DONE);
     }
 
+    /// A scan that begins at a place of the log.
+    pub fn scan(number: Option<NonZeroU32>, place: u64, log: &[u8]) -> Result<Handle, Error> {
+        let handle = Handle::empty();
+        // SAFETY: the handle holds nothing.
+        let code = unsafe { wz_scan_open_at(handle.raw.get(), number_of(number), place, log.as_ptr(), log.len()) };
+        if code == RANGE {
+            return Err(Error::PastEnd);
+        }
+        done(code)?;
+        Ok(handle)
+    }
+
+    /// Finds the next record of the log, with the stretch before it that doesn't read.
+    pub fn find_next(&mut self, log: &[u8]) -> Result<Found, Error> {
+        let (mut record, mut unread, mut end) = (RawRecord::default(), RawUnread::default(), RawEnd::default());
+        // SAFETY: the handle is ours alone. `Scan` sees to it that the bytes are equal at each call; where they aren't,
+        // other records are found.
+        let code = unsafe {
+            wz_scan_next(self.raw.get(), log.as_ptr(), log.len(), &mut record, &mut unread, &mut end)
+        };
+        let before = match code {
+            DONE => None,
+            UNREAD => Some(Unread { from: unread.from, to: unread.to, end: end_of(&unread.end) }),
+            END => return Ok(Found::End(end_of(&end))),
+            code => return Err(done(code).expect_err("an answer that isn't DONE")),
+        };
+        Ok(Found::Record { unread: before, start: record.start, end: record.end, len: record.len })
+    }
+
+    /// Copies the record that was found last, which has as many bytes as the buffer.
+    pub fn found(&self, buffer: &mut [u8]) {
+        // SAFETY: the handle is used by this call alone, and the buffer is ours alone.
+        let code = unsafe { wz_scan_record(self.raw.get(), buffer.as_mut_ptr(), buffer.len()) };
+        wanted(code, DONE);
+    }
+
     pub fn recovery(log: &[u8], number: Option<NonZeroU32>, mode: Mode) -> Result<(Handle, Summary), Error> {
         let handle = Handle::empty();
         let mode = match mode {
@@ -338,6 +437,14 @@ impl Handle {
         }
         wanted(code, DONE);
         Ok(index)
+    }
+
+    /// Another handle that holds the same recovery.
+    pub fn shared(&self) -> Result<Handle, Error> {
+        let other = Handle::empty();
+        // SAFETY: the handle is used by this call alone, and the other one holds nothing.
+        done(unsafe { wz_recovery_share(self.raw.get(), other.raw.get()) })?;
+        Ok(other)
     }
 
     pub fn batch() -> Result<Handle, Error> {
@@ -451,25 +558,79 @@ pub(crate) fn read_batch(bytes: &[u8]) -> Result<BatchHead, Error> {
     Ok(BatchHead { sequence: head.sequence, count: head.count })
 }
 
+/// What a batch's header says, if there are as many bytes.
+pub(crate) fn batch_head(bytes: &[u8]) -> Option<BatchHead> {
+    let mut head = RawBatchHead::default();
+    // SAFETY: the slice is that many bytes, and the head is ours alone.
+    let code = unsafe { wz_batch_read_head(bytes.as_ptr(), bytes.len(), &mut head) };
+    if code == NO_BATCH {
+        return None;
+    }
+    wanted(code, DONE);
+    Some(BatchHead { sequence: head.sequence, count: head.count })
+}
+
+/// Moves a place of a log on, and answers where recovery ends.
+pub(crate) fn recover_place(log: &[u8], number: Option<NonZeroU32>, place: &mut Place) -> Result<End, Error> {
+    let (mut raw, mut end) = (RawPlace { at: place.at, last: place.last }, RawEnd::default());
+    // SAFETY: the slice is that many bytes, and the two are ours alone.
+    let code = unsafe { wz_recover_place(number_of(number), log.as_ptr(), log.len(), &mut raw, &mut end) };
+    if code == RANGE {
+        return Err(Error::PastEnd);
+    }
+    done(code)?;
+    (place.at, place.last) = (raw.at, raw.last);
+    Ok(end_of(&end))
+}
+
 /// What there is at a place of a batch's bytes.
-pub(crate) enum Step<'a> {
-    /// A record, and the place after it.
-    Op(Op<'a>, usize),
+pub(crate) enum Step<T> {
+    /// A record or an operation, and the place after it.
+    Op(T, usize),
     End,
     NoBatch(End),
     /// The place is past the end.
     Past,
 }
 
-pub(crate) fn next_op(bytes: &[u8], mut at: usize) -> Step<'_> {
+/// Why there is no record or operation at a place, if the answer says so.
+fn no_step<T>(code: u32, why: &RawEnd) -> Option<Step<T>> {
+    match code {
+        END => Some(Step::End),
+        NO_BATCH => Some(Step::NoBatch(end_of(why))),
+        RANGE => Some(Step::Past),
+        code => {
+            wanted(code, DONE);
+            None
+        }
+    }
+}
+
+pub(crate) fn next_operation(bytes: &[u8], mut at: usize) -> Step<Operation<'_>> {
+    let (mut found, mut why) = (RawOperation::default(), RawEnd::default());
+    // SAFETY: the slice is that many bytes, and the three are ours alone.
+    let code = unsafe { wz_operation_next(bytes.as_ptr(), bytes.len(), &mut at, &mut found, &mut why) };
+    if let Some(step) = no_step(code, &why) {
+        return step;
+    }
+    let first = &bytes[found.first_at..found.first_at + found.first_len];
+    let second = &bytes[found.second_at..found.second_at + found.second_len];
+    let operation = Operation {
+        tag: found.tag as u8,
+        family: found.family,
+        sequences: found.sequences,
+        first: (found.strings > 0).then_some(first),
+        second: (found.strings > 1).then_some(second),
+    };
+    Step::Op(operation, at)
+}
+
+pub(crate) fn next_op(bytes: &[u8], mut at: usize) -> Step<Op<'_>> {
     let (mut op, mut why) = (RawOp::default(), RawEnd::default());
     // SAFETY: the slice is that many bytes, and the three are ours alone.
     let code = unsafe { wz_batch_next(bytes.as_ptr(), bytes.len(), &mut at, &mut op, &mut why) };
-    match code {
-        END => return Step::End,
-        NO_BATCH => return Step::NoBatch(end_of(&why)),
-        RANGE => return Step::Past,
-        code => wanted(code, DONE),
+    if let Some(step) = no_step(code, &why) {
+        return step;
     }
     let key = &bytes[op.key_at..op.key_at + op.key_len];
     let value = &bytes[op.value_at..op.value_at + op.value_len];

@@ -1,6 +1,6 @@
 //! Recovering a log.
 
-use crate::raw::{Handle, Summary};
+use crate::raw::{self, Handle, Summary};
 use crate::{End, Error};
 use std::iter::FusedIterator;
 use std::num::NonZeroU32;
@@ -43,7 +43,34 @@ pub fn recover(log: &[u8], number: Option<NonZeroU32>, mode: Mode) -> Result<Rec
     Ok(Recovery { held, summary })
 }
 
+/// A place in a log: the end of a record, or the log's start; and the last sequence up to there, 0 where there is none.
+/// The default is the start.
+#[derive(Clone, Copy, Debug, Default, PartialEq, Eq)]
+pub struct Place {
+    /// The offset.
+    pub at: u64,
+    /// The last sequence.
+    pub last: u64,
+}
+
+impl Place {
+    /// Moves it to the end of the last record that [`recover`] keeps, where the log may be resumed, and answers where
+    /// recovery ends. No pairs are made. Of a log that has grown since the last call only what came after that is read;
+    /// `log` is nevertheless all that it has by now. [`Error::PastEnd`] if the log ends before the place, which stays
+    /// then. Whether the log is kept up to the place isn't looked at: from any other
+    /// place it is read as if it were.
+    pub fn advance(&mut self, log: &[u8], number: Option<NonZeroU32>) -> Result<End, Error> {
+        raw::recover_place(log, number, self)
+    }
+}
+
 impl Recovery {
+    /// The same recovery once more, for another thread. Nothing is copied: what was recovered is freed with the last of
+    /// them.
+    pub fn share(&self) -> Result<Recovery, Error> {
+        Ok(Recovery { held: self.held.shared()?, summary: self.summary.clone() })
+    }
+
     /// How many records of the log are recovered. Each is one batch.
     pub fn groups(&self) -> usize {
         self.summary.groups

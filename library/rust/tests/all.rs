@@ -59,6 +59,67 @@ fn bytes_that_are_no_batch() {
 }
 
 #[test]
+fn operations_of_all_kinds() {
+    // A merge in the family 300, the name of a transaction that is committed, and a tag that isn't known.
+    let mut bytes = BATCH[..BATCH_HEADER_LEN].to_vec();
+    bytes.extend(b"\x06\xac\x02\x01k\x01+\x0b\x03xid\x0d\x14");
+    assert_eq!(batch_head(&bytes), Some(BatchHead { sequence: 1, count: 1 }));
+    assert!(read_batch(&bytes).is_err() && batch_head(b"few").is_none());
+    let found = Operations::new(&bytes).collect::<Vec<_>>();
+    let [Ok(merge), Ok(commit), Ok(mark), Err(Error::NoBatch(end))] = found[..] else {
+        panic!("three operations and a fault: {found:?}")
+    };
+    assert_eq!((merge.tag, merge.family, merge.sequences), (6, 300, 1));
+    assert_eq!((merge.first, merge.second), (Some(&b"k"[..]), Some(&b"+"[..])));
+    assert_eq!((commit.tag, commit.sequences, commit.first, commit.second), (0x0b, 0, Some(&b"xid"[..]), None));
+    assert_eq!((mark.tag, mark.first), (0x0d, None));
+    assert_eq!(end, End { at: bytes.len() as u64 - 1, why: Why::Tag(0x14) });
+    let short = Operations::new(b"few").collect::<Vec<_>>();
+    assert_eq!(short, [Err(Error::NoBatch(End { at: 0, why: Why::Short }))]);
+}
+
+#[test]
+fn a_batch_of_another_thread() {
+    let mut batch = Batch::new().unwrap();
+    batch.put(b"a", b"1").unwrap();
+    let written = std::thread::spawn(move || {
+        batch.set_sequence(1);
+        log_of(&[&batch.bytes()], None)
+    });
+    let recovery = recover(&written.join().unwrap(), None, Mode::Point).unwrap();
+    assert_eq!(std::thread::spawn(move || recovery.get(b"a")).join().unwrap(), Some(b"1".to_vec()));
+}
+
+#[test]
+fn a_recovery_that_threads_share() {
+    let recovery = recover(&log_of(&[BATCH], None), None, Mode::Point).unwrap();
+    let threads: Vec<_> = (0..4)
+        .map(|_| {
+            let mine = recovery.share().unwrap();
+            std::thread::spawn(move || (0..1000).all(|_| mine.get(b"a") == Some(b"1".to_vec()) && mine.groups() == 1))
+        })
+        .collect();
+    drop(recovery);
+    assert!(threads.into_iter().all(|it| it.join().unwrap()));
+}
+
+#[test]
+fn a_place_that_advances() {
+    let mut second = BATCH.to_vec();
+    second[0] = 2;
+    let log = log_of(&[BATCH, &second], None);
+    let mut place = Place::default();
+    assert_eq!(place.advance(&log[..30], None), Ok(End { at: 24, why: Why::ShortHeader }));
+    assert_eq!(place, Place { at: 24, last: 1 });
+    assert_eq!(place.advance(&log, None), Ok(End { at: 48, why: Why::Clean }));
+    assert_eq!(place, Place { at: 48, last: 2 });
+    let recovery = recover(&log, None, Mode::Point).unwrap();
+    assert_eq!((place.at, place.last), (recovery.kept(), recovery.last()));
+    assert_eq!(place.advance(&log[..47], None), Err(Error::PastEnd));
+    assert_eq!(place, Place { at: 48, last: 2 });
+}
+
+#[test]
 fn records_of_a_log() {
     for number in [None, NonZeroU32::new(7)] {
         let long = vec![5; 3 * BLOCK_LEN];
@@ -74,6 +135,26 @@ fn records_of_a_log() {
         let mut cut = Records::new(&log[..log.len() - 1], number).unwrap();
         assert_eq!(cut.by_ref().count(), 2);
         assert_eq!(cut.end().unwrap().why, Why::BadLength);
+    }
+}
+
+#[test]
+fn a_scan_past_damage() {
+    for number in [None, NonZeroU32::new(7)] {
+        let mut log = log_of(&[BATCH, b"more"], number);
+        let whole: Vec<Scanned> = Scan::new(&log, number).unwrap().collect::<Result<_, _>>().unwrap();
+        assert!(whole.iter().all(|it| it.unread.is_none()) && whole[0].record.bytes == BATCH);
+        let place = whole[0].record.end;
+        log[place as usize - 1] ^= 1;
+        let mut scan = Scan::new(&log, number).unwrap();
+        let found: Vec<Scanned> = scan.by_ref().collect::<Result<_, _>>().unwrap();
+        let unread = Unread { from: 0, to: place, end: End { at: 0, why: Why::BadChecksum } };
+        assert_eq!(found, [Scanned { unread: Some(unread), record: whole[1].record.clone() }]);
+        assert_eq!(scan.end(), Some(End { at: log.len() as u64, why: Why::Clean }));
+        assert!(scan.next().is_none());
+        let after = Scan::after(&log, number, place).unwrap().collect::<Result<Vec<_>, _>>().unwrap();
+        assert_eq!(after, whole[1..]);
+        assert_eq!(Scan::after(&log, number, log.len() as u64 + 1).unwrap_err(), Error::PastEnd);
     }
 }
 

@@ -1,6 +1,6 @@
 use Rattle.std.proofs.Common.{rules}
 use Rattle.model_base.specs.Map.{key_at, key_order}
-use Rattle.wolzenn_c.proofs.InOrder.{there, key_total}
+use Rattle.log_in_memory.proofs.InOrder.{there, key_total}
 use Rattle.wolzenn_c.proofs.pairs.find.Goals as goal
 
 -- the pair there has the key

@@ -1,0 +1,5 @@
+pub mod Faults
+pub mod InOrder
+pub mod Readings
+pub mod ScanAnswers
+pub mod Scans
