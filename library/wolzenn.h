@@ -26,9 +26,10 @@
    memory is leaked.
 
    What is promised below is proved, of the functions as they are called from Rattle. Five things are only tested: that
-   WZ_NO_MEMORY comes only where there was no memory; that no memory is leaked; how much memory is taken, and what is
-   copied; that a null pointer with the length 0 means no bytes; and the texts of codes and reasons. That pointers and
-   lengths are as said above is up to the caller. docs/LIBRARY.md has more, and first programs.
+   WZ_NO_MEMORY comes only where there was no memory; that no memory is leaked; that the calls of a scan, one after
+   another, make the whole scan; that a null pointer with the length 0 means no bytes; and the texts of codes and
+   reasons. How much memory is taken, and what is copied, is neither. That pointers and lengths are as said above is up
+   to the caller. docs/LIBRARY.md has more, and first programs.
 
    A program that was written when this header had one type of handle defines WZ_OLD_NAMES before it includes it: then
    all handles are a wz_handle, which wz_close closes, codes and reasons are a uint32_t, and reasons, modes and
