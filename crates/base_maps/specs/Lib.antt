@@ -1,4 +1,3 @@
-pub mod Fronts
 pub mod Merging
 pub mod Parts
 pub mod Families

@@ -8,8 +8,8 @@ ghost use Rattle.std.specs.Map.{keys_of, remove_entry};
 ghost use Rattle.model_base.specs.Map.{byte_order, row_at};
 ghost use Rattle.base_maps.specs.Parts.{with_next, comes_first};
 
-use crate::key::{ByteKey, FRONT_LEN};
 use base_bytes::Bytes;
+use base_keys::{ByteKey, FRONT_LEN};
 use model_base::NoMemory;
 use std::alloc::Global;
 use std::collections::{BTreeMap, btree_map};

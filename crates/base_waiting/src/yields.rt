@@ -4,8 +4,8 @@ use std::sync::atomic::AtomicU64;
 use std::sync::atomic::Ordering::SeqCst;
 use std::{rt, thread};
 
-/// From this many microseconds on a yield is slow: another thread wanted the processor, and had it for a slice of
-/// time.
+/// A yield that takes this many microseconds or more is slow: another thread wanted the processor, and had it for a
+/// slice of time.
 const SLOW_YIELD: u64 = 200;
 
 /// How many times as long as the first slow yield took there is no yield after it.
@@ -50,8 +50,10 @@ impl Yields {
         if now <= until {
             return false;
         }
-        self.off_until.store(now.saturating_add(PROBE), SeqCst);
-        true
+        // Of the waits that find the time over, one goes first.
+        self.off_until
+            .compare_exchange(until, now.saturating_add(PROBE), SeqCst, SeqCst)
+            .is_ok()
     }
 
     /// Learns from a yield that took this many microseconds, and ended at this moment. `first`: whether it was the

@@ -18,7 +18,7 @@
 //!
 //! - `batch`, `batch_bytes`, `record_bytes`: a batch that is being made.
 //! - `view`, `records`, `split`: reading a batch's bytes.
-//! - `effects`: what records do to a map. `run`: the sequences of a batch.
+//! - `run`: the sequences of a batch.
 //! - `checks`: the refusals of a commit that need nothing but its batch.
 #![tactic(auto)]
 
@@ -26,7 +26,6 @@ mod add_error;
 mod batch;
 mod batch_bytes;
 mod checks;
-mod effects;
 mod record_bytes;
 mod record_view;
 mod records;
@@ -38,7 +37,6 @@ pub use add_error::AddError;
 pub use batch::{Batch, MAX_SEQUENCE};
 pub use batch_bytes::HEADER_LEN;
 pub use checks::{Measure, flag_of, refusal_at_once};
-pub use effects::{write_record, write_records};
 pub use record_bytes::size_with_record;
 pub use record_view::{RecordView, named};
 pub use records::Records;

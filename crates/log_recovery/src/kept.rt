@@ -7,7 +7,8 @@ ghost use Rattle.model_base.specs.Map.{after_records};
 ghost use Rattle.log_recovery.specs.Keeping.{Adds, Refuses, MayRun, IsRunEnd};
 
 use base_maps::FamilyMap;
-use log_batch::{MAX_SEQUENCE, read_batch, write_records};
+use log_batch::{MAX_SEQUENCE, read_batch};
+use log_effects::write_records;
 use model_base::{BatchError, EndReason, NoMemory};
 use std::alloc::Global;
 

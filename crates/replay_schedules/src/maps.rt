@@ -13,7 +13,7 @@ ghost use Rattle.replay_schedules.specs.Maps.{records_added, after_entries, afte
 
 use crate::reading::MapUpTo;
 use base_maps::FamilyMap;
-use log_batch::write_record;
+use log_effects::write_record;
 use model_base::NoMemory;
 use replay_core::State;
 use replay_plans::Lines;

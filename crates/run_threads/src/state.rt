@@ -5,7 +5,7 @@ ghost use Rattle.model_base.specs.History as model;
 ghost use Rattle.run_threads.specs.Answers.{ShowsEntries};
 
 use base_maps::FamilyMap;
-use log_batch::write_records;
+use log_effects::write_records;
 use model_base::NoMemory;
 use run_outcome::History;
 

@@ -1,7 +1,7 @@
 pub mod Chains
 pub mod Codes
 pub mod Newest
-pub mod Values
+pub mod NodeBytes
 pub mod Nodes
 pub mod Batches
 pub mod Parts

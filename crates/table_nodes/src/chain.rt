@@ -65,8 +65,9 @@ impl Node {
 
 impl Nodes {
     /// The first node of the list that isn't above the sequence, if there is one. Where the list was made by
-    /// `push_newest`, this takes at most two steps for each time that the length can be halved.
+    /// `push_newest`, this takes at most three steps for each binary digit of its length.
     fn newest_up_to(&self, at: u64) -> Option<&Node>
+        // So the children of a node are newer than what comes after it.
         requires { Falls self.now }
         ensures { option_map version_of (option_copied result) ≡ first_up_to at self.now }
     {

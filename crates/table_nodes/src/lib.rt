@@ -7,9 +7,9 @@ mod calls;
 mod chain;
 mod gathered;
 mod node;
+mod node_bytes;
 mod nodes;
 mod parts;
-mod value;
 
 pub use gathered::GatheredNodes;
 pub use node::{Node, Nodes};

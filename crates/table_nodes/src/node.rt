@@ -4,25 +4,24 @@ ghost use Rattle.std.specs.Prelude.{◌≡◌};
 ghost use Rattle.std.specs.Option.{option_copied};
 ghost use Rattle.table_nodes.specs.Nodes.{own_key, version_of};
 
-use crate::value::Value;
-use base_maps::ByteKey;
+use crate::node_bytes::NodeBytes;
 use std::alloc::Global;
 use std::marker::Model;
 use std::mem::size_of;
 
 /// A version of a key of a column family: the value that it gets, or none where it is deleted, and the sequence.
 ///
-/// It has in it the links of a list, so that it takes no memory to put it into a list. A key of at most 16 bytes and a
-/// value of at most 23 are in the node itself, so that such a version is one allocation.
+/// It has in it the links of a list, so that it takes no memory to put it into a list. A key and a value of at most 23
+/// bytes are in the node itself, so that such a version is one allocation.
 #[cycle(nodes)]
 #[derive(Drop)]
 pub struct Node {
-    pub(crate) key: ByteKey,
+    pub(crate) key: NodeBytes,
     pub(crate) family: u32,
-    /// How high the tree of its children is, in a list that is searched. It is for speed alone.
+    /// How high the tree is whose root it is, less one, in a list that is searched. It is for speed alone.
     pub(crate) rank: u32,
     pub(crate) sequence: u64,
-    pub(crate) value: Option<Value>,
+    pub(crate) value: Option<NodeBytes>,
     /// The nodes right after it, which a search passes at once: two trees or none, in a list that is searched.
     pub(crate) children: Nodes,
     /// The nodes after those: in a tree of keys the older versions of its key, in a list the nodes that follow.
@@ -32,7 +31,7 @@ pub struct Node {
 }
 
 // One byte more would cost 16 in an allocator that gives out multiples of 16 and takes eight bytes for itself.
-const _: () = prove!(size_of::<Node>() <= 136);
+const _: () = prove!(size_of::<Node>() <= 120);
 
 /// A list of nodes: those that a batch makes, or the older versions of a key. Contracts see their versions in order.
 ///

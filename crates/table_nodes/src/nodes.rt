@@ -8,8 +8,7 @@ ghost use Rattle.table_nodes.specs.Batches.{new_versions, number_from};
 ghost use Rattle.table_rule.specs.declared.content.Version.{Version};
 
 use crate::node::{Node, Nodes};
-use crate::value::Value;
-use base_maps::ByteKey;
+use crate::node_bytes::NodeBytes;
 use log_batch::{Batch, RecordView};
 use model_base::NoMemory;
 use std::alloc::Global;
@@ -171,13 +170,13 @@ impl Node {
             ≡ record { key = at_key family key.now; value = option_copied value.entry; sequence = 0 }) }
     {
         let value = match value {
-            Some(value) => Some(Value::copy(alloc, value)?),
+            Some(value) => Some(NodeBytes::copy(alloc, value)?),
             None => None,
         };
         Ok(Box::new(
             alloc,
             Node {
-                key: ByteKey::copy(alloc, key)?,
+                key: NodeBytes::copy(alloc, key)?,
                 family,
                 rank: 0,
                 sequence: 0,

@@ -2,12 +2,12 @@
 
 ghost use Rattle.std.specs.Prelude.{◌≡◌, ◌+◌, ◌^◌, ◌≤◌};
 ghost use Rattle.model_base.specs.Map.{byte_order, key_order};
-ghost use Rattle.base_maps.specs.Fronts.{front_of};
+ghost use Rattle.base_keys.specs.Fronts.{front_of};
 ghost use Rattle.table_nodes.specs.Chains.{key_of, alone, with_version};
 ghost use Rattle.table_nodes.specs.Nodes.{at_key, own_key, version_of, chain_of};
 ghost use Rattle.table_tree.specs.Places.{IsOfFamilies};
 
-use crate::front::Front;
+use base_keys::Front;
 use std::cmp::Ordering;
 use std::marker::Model;
 use std::mem::size_of;
@@ -32,7 +32,7 @@ impl Model for Entry {
     ghost coded = { chain_code };
 
     ghost use Rattle.std.specs.Prelude.{◌≡◌};
-    ghost use Rattle.base_maps.specs.Fronts.{front_of};
+    ghost use Rattle.base_keys.specs.Fronts.{front_of};
     ghost use Rattle.table_nodes.specs.Nodes.{own_key, chain_of};
 
     ghost view = { λ e. chain_of e.node.value };

@@ -1,17 +1,17 @@
 //! How a node is inserted.
 
 ghost use Rattle.std.specs.Prelude.{◌≡◌, ◌<◌, ◌≤◌, ◌+◌, length, true, is_ok, IfErr, IfOk, if◌then◌else◌};
-ghost use Rattle.base_maps.specs.Fronts.{front_of};
+ghost use Rattle.base_keys.specs.Fronts.{front_of};
 ghost use Rattle.table_nodes.specs.Chains.{AreSorted, insert_in_chains};
 ghost use Rattle.table_nodes.specs.Nodes.{own_key, version_of};
 ghost use Rattle.table_tree.specs.Pages.{IsDense, IsPage, woven, height_of};
 ghost use Rattle.table_tree.specs.Ways.{IsWay};
 
 use crate::entry::{Entry, Families};
-use crate::front::Front;
 use crate::page::Page;
 use crate::places::place_of;
 use crate::splitting::{put, split_below};
+use base_keys::Front;
 use model_base::NoMemory;
 use std::alloc::Global;
 use table_nodes::Node;

@@ -9,7 +9,6 @@
 
 mod calls;
 mod entry;
-mod front;
 mod insertion;
 mod lookup;
 mod page;

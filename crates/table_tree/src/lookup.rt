@@ -7,9 +7,9 @@ ghost use Rattle.table_nodes.specs.Nodes.{at_key, version_of, chain_of};
 ghost use Rattle.table_tree.specs.Newest.{newest_version, chain_at};
 ghost use Rattle.table_tree.specs.Shapes.{chains_below};
 
-use crate::front::Front;
 use crate::page::Page;
 use crate::places::place_of;
+use base_keys::Front;
 use table_nodes::Node;
 
 /// The newest version of a family's key up to a sequence, if there is one below the root.

@@ -2,13 +2,13 @@
 
 ghost use Rattle.std.specs.Prelude.{◌≡◌, MatchResult};
 ghost use Rattle.std.specs.List.{AllByRecursion};
-ghost use Rattle.base_maps.specs.Fronts.{front_of};
+ghost use Rattle.base_keys.specs.Fronts.{front_of};
 ghost use Rattle.table_nodes.specs.Chains.{AreSorted};
 ghost use Rattle.table_nodes.specs.Nodes.{at_key};
 ghost use Rattle.table_tree.specs.Places.{IsOfFamilies, IsEntry, IsPlace};
 
 use crate::entry::{Entry, Families};
-use crate::front::Front;
+use base_keys::Front;
 use std::cmp::Ordering;
 
 /// Which entry a family's key has, or else before which one it would have one: there the page below is that has it. The

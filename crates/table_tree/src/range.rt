@@ -11,10 +11,10 @@ ghost use Rattle.table_tree.specs.Rows.{between, pair_of, pairs_at, rows_in};
 ghost use Rattle.table_tree.specs.Shapes.{chains_below};
 
 use crate::entry::{Entry, Families};
-use crate::front::Front;
 use crate::page::Page;
 use crate::places::place_of;
 use base_bytes::{Bytes, PairList};
+use base_keys::Front;
 use model_base::NoMemory;
 use std::alloc::Global;
 

@@ -7,8 +7,8 @@ ghost use Rattle.table_tree.specs.Pages.{IsDense};
 ghost use Rattle.table_tree.specs.Shapes.{chains_below, height_below, HasDense, IsOpenLeaf};
 
 use crate::entry::Families;
-use crate::front::Front;
 use crate::page::{MOST_BELOW, MOST_ENTRIES, Page};
+use base_keys::Front;
 use model_base::NoMemory;
 use std::alloc::Global;
 use std::mem;

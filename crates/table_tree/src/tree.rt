@@ -56,7 +56,7 @@ impl Tree {
     }
 
     /// Inserts a version. Its key must have no other version of this sequence. It never fails: where there is no memory
-    /// for a page that is needed, the version waits beside the tree until a later one is inserted. Returns whether
+    /// for a page that is needed, the version waits next to the tree until a later one is inserted. Returns whether
     /// there was memory for all pages that were needed.
     pub fn insert(&mut self, node: Box<Node>) -> bool
         requires { IsNew (version_of node.value) (versions_in self.old) }

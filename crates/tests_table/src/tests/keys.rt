@@ -1,6 +1,6 @@
 //! How keys compare.
 
-use base_maps::{ByteKey, Front};
+use base_keys::{ByteKey, Front};
 use std::alloc::Global;
 use std::cmp::Ordering;
 use std::process::Abort;

@@ -2,8 +2,8 @@
 use Rattle.std.proofs.Common.{◌≡◌, sym, ◌∙◌, ap, subst}
 use Rattle.std.proofs.lemmas.Bool.{false≢true}
 use Rattle.std.specs.Ordering.{is_ne}
-use Rattle.base_maps.specs.Fronts.{front_of}
-use Rattle.base_maps.proofs.Fronts.{ordered_by_fronts}
+use Rattle.base_keys.specs.Fronts.{front_of}
+use Rattle.base_keys.proofs.Fronts.{ordered_by_fronts}
 use Rattle.table_nodes.specs.Chains.{Chain, key_of}
 use Rattle.table_tree.proofs.entry.Entry.order_in_family.Goals as goal
 

@@ -1,5 +1,5 @@
-//! The value of a version, as its node holds it: the bytes of a short one are in the node, those of a longer one on
-//! the heap.
+//! The key or the value of a version, as its node holds it: the bytes of a short one are in the node, those of a longer
+//! one on the heap.
 //!
 //! So a version with a short key and a short value is one allocation.
 
@@ -11,30 +11,30 @@ use std::alloc::Global;
 use std::marker::Model;
 use std::mem::size_of;
 
-/// The most bytes of a value that is in place.
+/// The most bytes that are in place.
 const SHORT_LEN: usize = 23;
 
 // No more than a tag, and the part of a list on the heap that is in place.
-const _: () = prove!(size_of::<Value>() <= 32);
+const _: () = prove!(size_of::<NodeBytes>() <= 32);
 
-/// A value. Contracts see its bytes.
+/// A key or a value. Contracts see its bytes.
 #[derive(Drop)]
-pub(crate) struct Value {
+pub(crate) struct NodeBytes {
     place: Place,
 }
 
-/// Where the bytes of a value are.
+/// Where the bytes are.
 #[derive(Drop)]
 enum Place {
-    /// In place: the value is the first `len` of these bytes, and zeros follow.
+    /// In place: the first `len` of these bytes, and zeros follow.
     Short { len: u8, bytes: [u8; SHORT_LEN] },
     /// On the heap, since they are too many.
     Long(Bytes),
 }
 
-impl Model for Value {
+impl Model for NodeBytes {
     ghost use Rattle.std.specs.Prelude.{List, ℕ};
-    ghost use Rattle.table_nodes.specs.Values.{bytes_in, HasBytes};
+    ghost use Rattle.table_nodes.specs.NodeBytes.{bytes_in, HasBytes};
 
     ghost Value = { List ℕ };
 
@@ -43,27 +43,27 @@ impl Model for Value {
     ghost invariant = { λ v. HasBytes v.place };
 }
 
-impl Value {
-    /// The value of these bytes. One of at most 23 takes no memory.
-    pub(crate) fn copy(alloc: Global, bytes: &[u8]) -> Result<Value, NoMemory>
-        ensures { IfOk result (λ value. value ≡ bytes.now) }
+impl NodeBytes {
+    /// A copy of these bytes. At most 23 take no memory.
+    pub(crate) fn copy(alloc: Global, bytes: &[u8]) -> Result<NodeBytes, NoMemory>
+        ensures { IfOk result (λ copy. copy ≡ bytes.now) }
     {
         if bytes.len() <= SHORT_LEN {
-            return Ok(Value::short(bytes));
+            return Ok(NodeBytes::short(bytes));
         }
-        Ok(Value {
+        Ok(NodeBytes {
             place: Place::Long(Bytes::copy(alloc, bytes)?),
         })
     }
 
-    /// The value of bytes that fit in place.
-    fn short(bytes: &[u8]) -> Value
+    /// A copy of bytes that fit in place.
+    fn short(bytes: &[u8]) -> NodeBytes
         requires { length bytes.now ≤ SHORT_LEN }
         ensures { result ≡ bytes.now }
     {
         let mut short = [0; SHORT_LEN];
         short[..bytes.len()].copy_from_slice(bytes);
-        Value {
+        NodeBytes {
             place: Place::Short {
                 len: bytes.len() as u8,
                 bytes: short,

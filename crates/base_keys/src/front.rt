@@ -4,18 +4,18 @@ ghost use Rattle.std.specs.Prelude.{◌≡◌, ◌+◌, ◌≤◌};
 ghost use Rattle.std.specs.Slice.Scan.{big_endian};
 ghost use lib.Lanes.{chunk};
 ghost use Rattle.model_base.specs.Map.{byte_order};
-ghost use Rattle.base_maps.specs.Fronts.{front_of};
+ghost use Rattle.base_keys.specs.Fronts.{front_of};
 
 use std::cmp::Ordering;
 use std::marker::Model;
 
-/// How many bytes of a key an entry has.
-const FRONT_LEN: usize = 16;
+/// How many bytes a front has.
+pub const FRONT_LEN: usize = 16;
 
 /// The first bytes of a key, filled up with zeros if the key is shorter. Contracts see these 16 bytes.
-#[derive(Clone, Copy)]
-pub(crate) struct Front {
-    bytes: [u8; FRONT_LEN],
+#[derive(Clone, Copy, Debug)]
+pub struct Front {
+    pub(crate) bytes: [u8; FRONT_LEN],
 }
 
 impl Model for Front {
@@ -30,7 +30,7 @@ impl Model for Front {
 
 impl Front {
     /// The front of a key.
-    pub(crate) fn of(key: &[u8]) -> Front
+    pub fn of(key: &[u8]) -> Front
         ensures { result ≡ front_of 16 key.now }
     {
         let mut bytes = [0; FRONT_LEN];
@@ -43,7 +43,7 @@ impl Front {
     }
 
     /// How it compares with another front in byte order.
-    pub(crate) fn order(&self, other: &Front) -> Ordering
+    pub fn order(&self, other: &Front) -> Ordering
         ensures { result ≡ byte_order self.now other.now }
     {
         order_as_numbers(&self.bytes, &other.bytes)

@@ -2,7 +2,7 @@
 use Rattle.std.proofs.Common.{◌≡◌, List, ◌++◌}
 use Rattle.model_base.specs.Batch.{Record}
 use Rattle.model_base.specs.Map.{after_records}
-use Rattle.log_batch.proofs.effects.write_records.Given as goal
+use Rattle.log_effects.proofs.effects.write_records.Given as goal
 
 abbrev pub invariant-loop-view : goal.invariant-loop-view
 invariant-loop-view l = (written : List Record) × (l.fn.records ≡ written ++ l.view-iterator)

@@ -4,7 +4,7 @@ use Rattle.std.proofs.lemmas.List.Sums.{fold_push}
 use Rattle.model_base.specs.Batch.{Record}
 use Rattle.model_base.specs.Map.{Pairs, after_record, after_records}
 use Rattle.log_batch.specs.View.{record_of}
-use Rattle.log_batch.proofs.effects.write_records.Goals as goal
+use Rattle.log_effects.proofs.effects.write_records.Goals as goal
 
 pub loop-view-preserved : goal.loop-view-preserved
 loop-view-preserved c =

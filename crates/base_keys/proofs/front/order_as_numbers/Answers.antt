@@ -1,6 +1,6 @@
 use Rattle.std.proofs.Common.{◌∙◌}
-use Rattle.base_maps.proofs.Numbers.{by_high, by_low}
-use Rattle.base_maps.proofs.key.order_as_numbers.Goals as goal
+use Rattle.base_keys.proofs.Numbers.{by_high, by_low}
+use Rattle.base_keys.proofs.front.order_as_numbers.Goals as goal
 
 pub returns-then-high-other_high : goal.returns-then-high-other_high
 returns-then-high-other_high c =

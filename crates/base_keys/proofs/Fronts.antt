@@ -5,7 +5,7 @@ use Rattle.std.specs.Ordering.{nat_cmp, ordering_then, MatchOrdering}
 use Rattle.std.specs.declared.cmp.Ordering.{Ordering}
 use Rattle.std.specs.declared.cmp.Ordering.TheVariants.{Less, Equal, Greater}
 use Rattle.model_base.specs.Map.{byte_order}
-use Rattle.base_maps.specs.Fronts.{front_of}
+use Rattle.base_keys.specs.Fronts.{front_of}
 
 number_same : (x : ℕ) (r : Ordering) → MatchOrdering r (x < x) (x ≡ x) (x < x) → r ≡ Equal
 number_same x Less h = absurd (omega (arith, h))

@@ -2,28 +2,25 @@
 use Rattle.std.proofs.Common.{◌≡◌, List, ℕ, sym, ◌∙◌, ap, subst}
 use Rattle.std.proofs.lemmas.Bool.{false≢true}
 use Rattle.std.specs.Ordering.{is_ne}
-use Rattle.base_maps.specs.Fronts.{front_of}
-use Rattle.base_maps.proofs.Fronts.{ordered_by_fronts}
-use Rattle.base_maps.proofs.Behind.{same_fronts}
-use Rattle.base_maps.proofs.key.ByteKey.order.Goals as goal
+use Rattle.base_keys.specs.Fronts.{front_of}
+use Rattle.base_keys.proofs.Fronts.{ordered_by_fronts}
+use Rattle.base_keys.proofs.Behind.{same_fronts}
+use Rattle.base_keys.proofs.key.ByteKey.order_of.Goals as goal
 
 pub returns-then-is_ne : goal.returns-then-is_ne
 returns-then-is_ne c =
     let front = c.self.inside.front in
-    let other = c.other.inside.front in
-    ordered_by_fronts 16 c.args.self.now c.args.other.now front other c.order-order.result
+    ordered_by_fronts 16 c.args.key.now c.args.self.now c.args.front front c.order-order.result
+    (sym c.requires)
     (subst (λ (l : List ℕ). front_of 16 l ≡ front) c.self.view_is c.self.invariant)
-    (subst (λ (l : List ℕ). front_of 16 l ≡ other) c.other.view_is c.other.invariant)
     c.order-order.ensures
     (λ equal. false≢true (sym (c.if-is_ne.ensures {u = tt} ∙ ap is_ne equal)))
 
 pub order_behind-requires : goal.order_behind-requires
 order_behind-requires c =
     let front = c.self.inside.front in
-    let other = c.other.inside.front in
-    ap (front_of 16) c.as_slice.ensures
-    ∙ same_fronts 16 c.args.self.now c.args.other.now front other c.order-order.result
+    same_fronts 16 c.args.key.now c.args.self.now c.args.front front c.order-order.result
+    (sym c.requires)
     (subst (λ (l : List ℕ). front_of 16 l ≡ front) c.self.view_is c.self.invariant)
-    (subst (λ (l : List ℕ). front_of 16 l ≡ other) c.other.view_is c.other.invariant)
     c.order-order.ensures (sym (c.if-is_ne.ensures {u = tt}))
-    ∙ ap (front_of 16) (sym c.as_slice-2.ensures)
+    ∙ ap (front_of 16) (sym c.as_slice.ensures)

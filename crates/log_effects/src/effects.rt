@@ -4,9 +4,8 @@ ghost use Rattle.std.specs.Prelude.{◌≡◌, ◌<◌, ℕ, length, take, OnOk,
 ghost use Rattle.model_base.specs.Map.{after_record, after_records};
 ghost use Rattle.log_batch.specs.View.{record_of};
 
-use crate::record_view::RecordView;
-use crate::records::Records;
 use base_maps::FamilyMap;
+use log_batch::{RecordView, Records};
 use model_base::NoMemory;
 
 /// Changes a map as records say, in their order. If memory runs out, it stops after some of them, perhaps none.

@@ -6,7 +6,7 @@ use Rattle.std.specs.Ordering.{is_ne, nat_cmp, ordering_then, ordering_reverse}
 use Rattle.std.specs.declared.cmp.Ordering.{Ordering}
 use Rattle.std.specs.declared.cmp.Ordering.TheVariants.{Less, Equal, Greater}
 use Rattle.model_base.specs.Map.{byte_order}
-use Rattle.base_maps.specs.Fronts.{front_of}
+use Rattle.base_keys.specs.Fronts.{front_of}
 
 same_first : (x y : ℕ) (r : Ordering) → x ≡ y → ordering_then (nat_cmp x y) r ≡ r
 same_first x y r e = ap (λ z. ordering_then (nat_cmp x z) r) (sym e) ∙ ap (λ o. ordering_then o r) (tied_itself nat_cmp_total x)

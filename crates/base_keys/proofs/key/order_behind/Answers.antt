@@ -2,9 +2,9 @@
 use Rattle.std.proofs.Common.{◌≡◌, ◌≤◌, ◌-◌, List, ℕ, length, take, drop, ap, ◌∙◌, arith}
 use Rattle.std.proofs.lemmas.Grind.{common_steps}
 use Rattle.model_base.specs.Map.{byte_order}
-use Rattle.base_maps.proofs.Behind.{lengths_decide, other_lengths_decide, others_decide}
-use Rattle.base_maps.proofs.key.order_behind.Goals as goal
-use Rattle.base_maps.proofs.key.order_behind.Goals.{then-key-le-FRONT_LEN-via-then-key-le-FRONT_LEN, then-key-le-FRONT_LEN-via-else-key-le-FRONT_LEN+then-other-le-FRONT_LEN}
+use Rattle.base_keys.proofs.Behind.{lengths_decide, other_lengths_decide, others_decide}
+use Rattle.base_keys.proofs.key.order_behind.Goals as goal
+use Rattle.base_keys.proofs.key.order_behind.Goals.{then-key-le-FRONT_LEN-via-then-key-le-FRONT_LEN, then-key-le-FRONT_LEN-via-else-key-le-FRONT_LEN+then-other-le-FRONT_LEN}
 
 pub returns-then-key-le-FRONT_LEN : goal.returns-then-key-le-FRONT_LEN
 returns-then-key-le-FRONT_LEN c =

@@ -1,7 +1,7 @@
--- The bytes of a value, in place or on the heap.
+-- The bytes of a key or of a value, in place or on the heap.
 use Rattle.std.specs.Prelude.{ℕ, ◌≤◌, List, take}
-use Rattle.table_nodes.specs.declared.value.Place.{Place}
-use Rattle.table_nodes.specs.declared.value.Place.TheVariants.{Short, Long}
+use Rattle.table_nodes.specs.declared.node_bytes.Place.{Place}
+use Rattle.table_nodes.specs.declared.node_bytes.Place.TheVariants.{Short, Long}
 
 abbrev pub bytes_in : Place → List ℕ
 bytes_in (Short len bytes) = take len bytes

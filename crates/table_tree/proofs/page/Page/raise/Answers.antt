@@ -1,2 +1,0 @@
--- The goals' names are guessed. invariant_of-self where the page is put above: raised; the clause same: raised too, since
--- the low half's value is what replace gave back (c.split.new.self).
