@@ -81,22 +81,22 @@ module _ (p q : Progress) where
   by_done trace client action d = as_before _ d.after refl
 
   by_stop : (trace : Trace) (client : ℕ) (reply : Reply) → Stops trace client p reply q → Keeps
-  by_stop trace client done d = by_done trace client _ d.1
+  by_stop trace client done d = by_done trace client _ d.2
   by_stop trace client held d = by_stay d.1
   by_stop trace client other d = absurd d
 
   by_unstop : (trace : Trace) (client : ℕ) (reply : Reply) → Unstops trace client p reply q → Keeps
-  by_unstop trace client done d = by_done trace client _ d.1
+  by_unstop trace client done d = by_done trace client _ d.2
   by_unstop trace client not_held d = by_stay d.1
   by_unstop trace client other d = absurd d
 
   by_slow : (trace : Trace) (client rate : ℕ) (reply : Reply) → Slows trace client p rate reply q → Keeps
-  by_slow trace client rate done d = by_done trace client _ d.1
+  by_slow trace client rate done d = by_done trace client _ d.2
   by_slow trace client rate held d = by_stay d.1
   by_slow trace client rate other d = absurd d
 
   by_unslow : (trace : Trace) (client : ℕ) (reply : Reply) → Unslows trace client p reply q → Keeps
-  by_unslow trace client done d = by_done trace client _ d.1
+  by_unslow trace client done d = by_done trace client _ d.2
   by_unslow trace client not_held d = by_stay d.1
   by_unslow trace client other d = absurd d
 

@@ -80,10 +80,10 @@ all_at P (y ∷ xs) (suc i) x all there = all_at P xs i x all.1 there
 -- The commit
 
 accepted_by : (settings : Settings) (trace : Trace) (client : ℕ) (p : Progress) (how : WriteOptions) (first last : ℕ) (records : List Record) (q : Progress) → Commits settings trace client p how (accepted first last records) q
-    → IsAccepted trace.log_calls client p how first last records q
+    → IsAccepted trace.controller_calls trace.log_calls client p how first last records q
 accepted_by settings trace client p how first last records q s = by (early_refusal settings.families settings.batch_bytes (holds_stop p.asked) p.pending how) s
   where
-    by : (early : Option Refusal) → MatchOption early (IsAttempted trace client p how (accepted first last records) q) (λ why. (accepted first last records ≡ refused why) × Stays p q) → IsAccepted trace.log_calls client p how first last records q
+    by : (early : Option Refusal) → MatchOption early (IsAttempted trace client p how (accepted first last records) q) (λ why. (accepted first last records ≡ refused why) × Stays p q) → IsAccepted trace.controller_calls trace.log_calls client p how first last records q
     by None s = s
     by (Some why) s = absurd (cc s.0)
 

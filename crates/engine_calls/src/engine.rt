@@ -1,6 +1,6 @@
 //! The calls of a write path.
 
-ghost use Rattle.std.specs.Prelude.{◌≡◌, ◌+◌, ◌≤◌, true, false, [], ◌∷◌, None, length, map, List, Option, IfOk, IfErr, IfSome, OnOk, OnErr};
+ghost use Rattle.std.specs.Prelude.{◌≡◌, ℕ, ◌+◌, ◌≤◌, true, false, [], ◌∷◌, None, length, map, List, Option, IfOk, IfErr, IfSome, OnOk, OnErr};
 ghost use Rattle.model_base.specs.Batch as model;
 ghost use Rattle.model_base.specs.LogContents.{GroupCall, IsLoggedBy};
 ghost use Rattle.model_base.specs.Recovery.{Logged};
@@ -218,14 +218,18 @@ pub trait Engine {
         ensures err { IfErr result
             (λ why. FailsFor (settings self.now) (account client.old) why (account client.new)) };
 
-    /// Takes the client's stop token. While any client holds one, writes that may wait do, and those that may not are
-    /// refused. A client that holds one itself doesn't wait: all its writes are refused. Where the client already holds
-    /// one, no call is made. A write that had gone on before isn't stopped.
+    /// Takes the client's stop token. While any client holds one, leaders let writes wait that may wait, and refuse
+    /// those that may not, as far as an outcome shows it. A client that holds one itself doesn't wait: all its writes
+    /// are refused. A write that had gone on before isn't stopped. Where the client already holds one, no call is made.
+    ///
+    /// Where a call was made, by this function or the next three, the client is from then on shown all that other
+    /// clients had been shown whose delay or token call comes before it. What was said up to a call, and that it was
+    /// heard, is known at the closing.
     fn stop<R: Wait + rt::Clock>(&self, rt: &R, client: &mut Self::Client) -> Result<(), Held>
         requires { belongs self.now client.old }
         ensures belongs { belongs self.now client.new }
         ensures done { OnOk result ((holds_stop (account client.old).asked ≡ false)
-            × Asks (account client.old) controller.stop (account client.new)) }
+            × (shown : ℕ) × Asks (account client.old) (controller.stop shown) (account client.new)) }
         // It is refused exactly where the client itself holds one.
         ensures held { OnErr result ((holds_stop (account client.old).asked ≡ true)
             × Keeps (account client.old) (account client.new)) };
@@ -235,13 +239,13 @@ pub trait Engine {
         requires { belongs self.now client.old }
         ensures belongs { belongs self.now client.new }
         ensures done { OnOk result ((holds_stop (account client.old).asked ≡ true)
-            × Asks (account client.old) controller.unstop (account client.new)) }
+            × (shown : ℕ) × Asks (account client.old) (controller.unstop shown) (account client.new)) }
         ensures not_held { OnErr result ((holds_stop (account client.old).asked ≡ false)
             × Keeps (account client.old) (account client.new)) };
 
     /// Takes the client's slow token, with a rate in bytes a second; a rate of 0 counts as 1. While any client holds
-    /// one, a group of writes waits where its bytes are more than what the newest rate has let pass, and one that may
-    /// not wait is refused then. Where the client already holds one, no call is made.
+    /// one, a leader lets a group of writes wait whose bytes are more than what the newest rate has let pass, and refuses
+    /// it where it may not wait. Where the client already holds one, no call is made.
     fn slow<R: Wait + rt::Clock>(
         &self,
         rt: &R,
@@ -251,7 +255,7 @@ pub trait Engine {
         requires { belongs self.now client.old }
         ensures belongs { belongs self.now client.new }
         ensures done { OnOk result ((holds_slow (account client.old).asked ≡ false)
-            × Asks (account client.old) (controller.slow rate) (account client.new)) }
+            × (shown : ℕ) × Asks (account client.old) (controller.slow rate shown) (account client.new)) }
         ensures held { OnErr result ((holds_slow (account client.old).asked ≡ true)
             × Keeps (account client.old) (account client.new)) };
 
@@ -260,7 +264,7 @@ pub trait Engine {
         requires { belongs self.now client.old }
         ensures belongs { belongs self.now client.new }
         ensures done { OnOk result ((holds_slow (account client.old).asked ≡ true)
-            × Asks (account client.old) controller.unslow (account client.new)) }
+            × (shown : ℕ) × Asks (account client.old) (controller.unslow shown) (account client.new)) }
         ensures not_held { OnErr result ((holds_slow (account client.old).asked ≡ false)
             × Keeps (account client.old) (account client.new)) };
 

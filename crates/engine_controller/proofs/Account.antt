@@ -72,35 +72,35 @@ gave_tokens : (holds : Bool) (c : ℕ) (before : List ControllerCall) (a : Actio
 gave_tokens true c before a after g = ends_tokens c before a None after g
 gave_tokens false c before a after g = ap (tokens_of c) g ∙ sym (append-nil (tokens_of c before))
 
-slow_same : (asked : List Action) (holds : Bool) → holds_slow (asked ++ (if holds then token_in unstop else [])) ≡ holds_slow asked
-slow_same asked true = fold-append slow_after false asked (unstop ∷ [])
-slow_same asked false = ap holds_slow (append-nil asked)
+slow_same : (asked : List Action) (shown : ℕ) (holds : Bool) → holds_slow (asked ++ (if holds then token_in (unstop shown) else [])) ≡ holds_slow asked
+slow_same asked shown true = fold-append slow_after false asked (unstop shown ∷ [])
+slow_same asked shown false = ap holds_slow (append-nil asked)
 
 -- giving the stop token back doesn't change whether the slow token is held
-pub slow_stays : (c : ℕ) (seen middle : List ControllerCall) → GivesBack (holds_stop (tokens_of c seen)) c seen unstop middle
+pub slow_stays : (c shown : ℕ) (seen middle : List ControllerCall) → GivesBack (holds_stop (tokens_of c seen)) c seen (unstop shown) middle
     → holds_slow (tokens_of c middle) ≡ holds_slow (tokens_of c seen)
-slow_stays c seen middle g =
-    ap holds_slow (gave_tokens (holds_stop (tokens_of c seen)) c seen unstop middle g) ∙ slow_same (tokens_of c seen) (holds_stop (tokens_of c seen))
+slow_stays c shown seen middle g =
+    ap holds_slow (gave_tokens (holds_stop (tokens_of c seen)) c seen (unstop shown) middle g) ∙ slow_same (tokens_of c seen) shown (holds_stop (tokens_of c seen))
 
-pub gave_both : (c : ℕ) (seen middle after : List ControllerCall) → GivesBack (holds_stop (tokens_of c seen)) c seen unstop middle
-    → GivesBack (holds_slow (tokens_of c seen)) c middle unslow after
-    → tokens_of c after ≡ tokens_of c seen ++ given_back (tokens_of c seen)
-gave_both c seen middle after g h =
+pub gave_both : (c shown : ℕ) (seen middle after : List ControllerCall) → GivesBack (holds_stop (tokens_of c seen)) c seen (unstop shown) middle
+    → GivesBack (holds_slow (tokens_of c seen)) c middle (unslow shown) after
+    → tokens_of c after ≡ tokens_of c seen ++ given_back (tokens_of c seen) shown
+gave_both c shown seen middle after g h =
     let asked : List Action = tokens_of c seen in
-    let first : List Action = if holds_stop asked then token_in unstop else [] in
-    let second : List Action = if holds_slow asked then token_in unslow else [] in
-    gave_tokens (holds_slow asked) c middle unslow after h ∙ ap (λ l. l ++ second) (gave_tokens (holds_stop asked) c seen unstop middle g)
+    let first : List Action = if holds_stop asked then token_in (unstop shown) else [] in
+    let second : List Action = if holds_slow asked then token_in (unslow shown) else [] in
+    gave_tokens (holds_slow asked) c middle (unslow shown) after h ∙ ap (λ l. l ++ second) (gave_tokens (holds_stop asked) c seen (unstop shown) middle g)
     ∙ append_assoc asked first second
 
-module _ {T E U F : Type 0} (r : Result T E) (q : Result U F) (c d : ℕ) (seen middle after : List ControllerCall) (same : d ≡ c)
-    (stop_ok : OnOk r ((holds_stop (tokens_of c seen) ≡ true) × EndsWith c seen unstop None middle))
+module _ {T E U F : Type 0} (r : Result T E) (q : Result U F) (c d shown : ℕ) (seen middle after : List ControllerCall) (same : d ≡ c)
+    (stop_ok : OnOk r ((holds_stop (tokens_of c seen) ≡ true) × EndsWith c seen (unstop shown) None middle))
     (stop_err : OnErr r ((holds_stop (tokens_of c seen) ≡ false) × (middle ≡ seen)))
-    (slow_ok : OnOk q ((holds_slow (tokens_of d middle) ≡ true) × EndsWith d middle unslow None after))
+    (slow_ok : OnOk q ((holds_slow (tokens_of d middle) ≡ true) × EndsWith d middle (unslow shown) None after))
     (slow_err : OnErr q ((holds_slow (tokens_of d middle) ≡ false) × (after ≡ middle))) where
-  pub gives_stop : GivesBack (holds_stop (tokens_of c seen)) c seen unstop middle
-  gives_stop = gave r (holds_stop (tokens_of c seen)) c seen unstop middle stop_ok stop_err
+  pub gives_stop : GivesBack (holds_stop (tokens_of c seen)) c seen (unstop shown) middle
+  gives_stop = gave r (holds_stop (tokens_of c seen)) c seen (unstop shown) middle stop_ok stop_err
 
-  pub gives_slow : GivesBack (holds_slow (tokens_of c seen)) c middle unslow after
+  pub gives_slow : GivesBack (holds_slow (tokens_of c seen)) c middle (unslow shown) after
   gives_slow =
-      let held : holds_slow (tokens_of d middle) ≡ holds_slow (tokens_of c seen) = ap (λ n. holds_slow (tokens_of n middle)) same ∙ slow_stays c seen middle gives_stop in
-      subst (λ (x : Bool × ℕ). GivesBack x.0 x.1 middle unslow after) (λ i. (held i, same i)) (gave q (holds_slow (tokens_of d middle)) d middle unslow after slow_ok slow_err)
+      let held : holds_slow (tokens_of d middle) ≡ holds_slow (tokens_of c seen) = ap (λ n. holds_slow (tokens_of n middle)) same ∙ slow_stays c shown seen middle gives_stop in
+      subst (λ (x : Bool × ℕ). GivesBack x.0 x.1 middle (unslow shown) after) (λ i. (held i, same i)) (gave q (holds_slow (tokens_of d middle)) d middle (unslow shown) after slow_ok slow_err)

@@ -7,6 +7,7 @@ use Rattle.std.proofs.lemmas.Bool.Decides.{nat_tests}
 use Rattle.crossbeam_utils.specs.Seq.{cell_view}
 use Rattle.model_base.specs.Controller as controller
 use Rattle.model_base.specs.Controller.{ControllerCall, numbers_after}
+use Rattle.model_base.specs.Tokens.{AreHeard}
 use Rattle.engine_controller.specs.declared.pass.Pass.{Pass}
 use Rattle.engine_controller.specs.declared.rule.Call.{Call}
 use Rattle.engine_controller.specs.declared.rule.Observer.{Observer}
@@ -28,7 +29,7 @@ pub observers_more : (xs : List Pass) (p : Pass) → observers_of (xs ++ p ∷ [
 observers_more [] p = append-nil (cell_view p.seat)
 observers_more (x ∷ xs) p = ap (λ l. cell_view x.seat ++ l) (observers_more xs p) ∙ sym (append_assoc (cell_view x.seat) (observers_of xs) (cell_view p.seat))
 
-fits_of : (calls : List Call) (passes : List Pass) (i : ℕ) (p : Pass) → slice_get passes i ≡ Some p → AllByRecursion (Fits calls) (observers_of passes) → AllByRecursion (Fits calls) (cell_view p.seat)
+pub fits_of : (calls : List Call) (passes : List Pass) (i : ℕ) (p : Pass) → slice_get passes i ≡ Some p → AllByRecursion (Fits calls) (observers_of passes) → AllByRecursion (Fits calls) (cell_view p.seat)
 fits_of calls [] i p e a = absurd (cc)
 fits_of calls (x ∷ passes) zero p e a =
     let is : x ≡ p = cc (e) in
@@ -40,7 +41,7 @@ fits_of calls (x ∷ passes) zero p e a =
 fits_of calls (x ∷ passes) (suc i) p e a = fits_of calls passes i p e (all_back (Fits calls) (cell_view x.seat) (observers_of passes) a)
 
 -- a client's number that the others don't cover is from 1 to n
-client_within : (c n : ℕ) → covers (Others n) c ≡ false → (1 ≤ c) × (c ≤ n)
+pub client_within : (c n : ℕ) → covers (Others n) c ≡ false → (1 ≤ c) × (c ≤ n)
 client_within c n h = within (c == 0) (nat_lt n c) refl refl h
   where
     within : (z l : Bool) → (c == 0) ≡ z → nat_lt n c ≡ l → (z || l) ≡ false → (1 ≤ c) × (c ≤ n)
@@ -52,10 +53,11 @@ within_all : (n : ℕ) (m : controller.Numbers) (calls : List Call) → AllByRec
 within_all n m [] a = tt
 within_all n m (c ∷ calls) a = (client_within c.client n a.0, within_all n (numbers_after m (action_of c.action)) calls a.1)
 
-module _ (passes : List Pass) (each : (i : ℕ) (p : Pass) → slice_get passes i ≡ Some p → IsClientView (cell_view p.seat) × (client_of p ≡ i + 1)) (calls : List Call) (fits : AllByRecursion (Fits calls) (others (length passes) ++ observers_of passes)) where
+module _ (passes : List Pass) (each : (i : ℕ) (p : Pass) → slice_get passes i ≡ Some p → IsClientView (cell_view p.seat) × (client_of p ≡ i + 1)) (calls : List Call) (fits : AllByRecursion (Fits calls) (others (length passes) ++ observers_of passes)) (heard : AreHeard (history_of calls)) where
   pub is_history : IsHistoryOf passes (history_of calls)
   is_history = record {
     legal = legal_from controller.opening calls;
+    heard = heard;
     clients =
         let rest = fits.0 in
         within_all (length passes) controller.opening calls (subst (AllByRecursion (IsOfOthers (Others (length passes)))) rest.begins rest.behind);

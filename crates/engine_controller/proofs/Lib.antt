@@ -1,9 +1,13 @@
 pub mod Account
 pub mod Asked
 pub mod Closings
+pub mod Counted
+pub mod Heard
 pub mod Histories
 pub mod Moves
+pub mod Owned
 pub mod Places
+pub mod Spoken
 pub mod Stalls
 pub mod Steps
 pub mod Tellings

@@ -1,7 +1,8 @@
 -- What the methods of the cell require, shown for views that are known.
-use Rattle.std.proofs.Common.{◌≡◌, ◌≢◌, ◌⊎◌, ⊎_elim, ℕ, zero, suc, ◌+◌, ◌^◌, ◌≤◌, ◌<◌, Bool, true, false, true≢false, List, [], ◌∷◌, ◌++◌, sym, ap, ◌∙◌, refl, subst, arith}
+use Rattle.std.proofs.Common.{◌≡◌, ◌≢◌, ◌⊎◌, inl, inr, ⊎_elim, ℕ, zero, suc, ◌+◌, ◌^◌, ◌≤◌, ◌<◌, Bool, true, false, true≢false, List, [], ◌∷◌, ◌++◌, sym, ap, ◌∙◌, refl, subst, arith}
 use Rattle.std.specs.Prelude.{◌==◌, ◌||◌, ◌&&◌, nat_lt, if◌then◌else◌}
 use Rattle.std.specs.List.{AllByRecursion, sum_by}
+use Rattle.std.proofs.lemmas.Bool.{cases_lt}
 use Rattle.std.proofs.lemmas.Bool.Decides.{nat_tests}
 use mathlib.Core.Option.{some, some-ne-none, some-injective}
 use lib.ListN.{get_elem?}
@@ -12,13 +13,14 @@ use Rattle.model_base.specs.Controller.{numbers_after}
 use Rattle.model_base.specs.Tokens.{holds_stop, holds_slow}
 use Rattle.engine_controller.specs.declared.numbers.Numbers.{Numbers}
 use Rattle.engine_controller.specs.declared.numbers.Action.{Action}
-use Rattle.engine_controller.specs.declared.numbers.Action.TheVariants.{Look, Delay}
+use Rattle.engine_controller.specs.declared.numbers.Action.TheVariants.{Look, Delay, Say, Hear}
 use Rattle.engine_controller.specs.declared.rule.Call.{Call}
 use Rattle.engine_controller.specs.declared.rule.Observer.{Observer}
 use Rattle.engine_controller.specs.declared.rule.Caller.TheVariants.{Nobody, Client, Others}
-use Rattle.engine_controller.specs.Numbers.{numbers_of, action_of, held_up_after}
-use Rattle.engine_controller.specs.Rule.{asked_in, observer, client_view, others, note_of, fewer_others, next_client, covers, coverage, IsOfOthers, Fits, weight, tokens_held, share, total, Kept, Sees, Makes, is_free, Asks, Exchanges, Closes, MayCall}
+use Rattle.engine_controller.specs.Numbers.{numbers_of, action_of, held_up_after, shown_after, token_weight}
+use Rattle.engine_controller.specs.Rule.{asked_in, observer, client_view, others, note_of, fewer_others, next_client, covers, coverage, IsOfOthers, Fits, weight, tokens_held, share, total, Kept, Sees, Makes, is_free, Asks, Exchanges, Says, Closes, MayCall, marked_of}
 use Rattle.engine_controller.proofs.Totals.{sum_single, all_map}
+use Rattle.engine_controller.proofs.Counted.{none_marked}
 use Rattle.engine_controller.proofs.Unchanged.{unslowed, freely_told}
 use Rattle.engine_controller.proofs.Steps.{forked, merged, AreNotes, no_notes, sees_at, makes_at}
 
@@ -49,8 +51,16 @@ is_not_free x either = by_case (x.stops == 0) (x.delays == 0) refl refl
 pub sees_turn : (id c : ℕ) (seen : List Call) (notes : List Observer) → AreNotes notes → (v : List Observer) → v ≡ observer (Client c) seen ∷ notes → Turns Kept id v (λ x. x) Sees
 sees_turn id c seen notes quiet v is = subst (λ (u : List Observer). Turns Kept id u (λ x. x) Sees) (sym is) (λ x views r at. sees_at id c seen notes quiet x views r at)
 
+-- a call that is no token call is counted as none
+as_many : (n : ℕ) → n ≡ n + 0
+as_many n = omega arith
+
+-- what isn't said has no mark
+unmarked : (n : ℕ) → 0 ≤ n
+unmarked n = omega arith
+
 pub looks_turn : (id c : ℕ) (seen : List Call) (v : List Observer) → v ≡ client_view c seen → Turns Kept id v (λ x. x) (λ v x _ w. Makes Look v x w)
-looks_turn id c seen v is = subst (λ (u : List Observer). Turns Kept id u (λ x. x) (λ v x _ w. Makes Look v x w)) (sym is) (λ x views r at. makes_at id c seen Look tt x x views refl refl r at)
+looks_turn id c seen v is = subst (λ (u : List Observer). Turns Kept id u (λ x. x) (λ v x _ w. Makes Look v x w)) (sym is) (λ x views r at. makes_at id c seen Look tt x x views refl refl refl (as_many x.tokens) (unmarked x.tokens) r at)
 
 asks_turn : (id c : ℕ) (seen : List Call) (now bytes : ℕ) (v : List Observer) → v ≡ client_view c seen → Turns Kept id v (λ x. x) (λ v x _ w. Asks (Delay now bytes) v x w)
 asks_turn id c seen now bytes v is = subst (λ (u : List Observer). Turns Kept id u (λ x. x) (λ v x _ w. Asks (Delay now bytes) v x w)) (sym is) (λ x. by_case x (is_free x) refl)
@@ -61,7 +71,7 @@ asks_turn id c seen now bytes v is = subst (λ (u : List Observer). Turns Kept i
         let stops : x.stops ≡ 0 = same_number x.stops 0 free.0 in
         let delays : x.delays ≡ 0 = same_number x.delays 0 free.1 in
         let made = makes_at id c seen (Delay now bytes) tt x x views (sym (ap (λ a. a.numbers) (unslowed (numbers_of x) now bytes delays)))
-        (sym (freely_told c x.held_up (numbers_of x) now bytes stops delays)) r at in
+        (sym (freely_told c x.held_up (numbers_of x) now bytes stops delays)) refl (as_many x.tokens) (unmarked x.tokens) r at in
         (made.0, made.1, record { made = λ _. made.2; other = λ no. absurd (true≢false (sym e ∙ no)) })
     by_case x false e views r at =
         let seen_now = sees_at id c seen [] no_notes x views r at in
@@ -70,25 +80,48 @@ asks_turn id c seen now bytes v is = subst (λ (u : List Observer). Turns Kept i
 pub asks_picked : (id c : ℕ) (seen : List Call) (a : Action) (now bytes : ℕ) → a ≡ Delay now bytes → (v : List Observer) → v ≡ client_view c seen → Turns Kept id v (λ x. x) (λ v x _ w. Asks a v x w)
 asks_picked id c seen a now bytes is v view = subst (λ (k : Action). Turns Kept id v (λ x. x) (λ v x _ w. Asks k v x w)) (sym is) (asks_turn id c seen now bytes v view)
 
+hears_turn : (id c : ℕ) (seen : List Call) (most : ℕ) (v : List Observer) → v ≡ client_view c seen → Turns Kept id v (λ x. x) (λ v x _ w. Makes (Hear most) v x w)
+hears_turn id c seen most v is = subst (λ (u : List Observer). Turns Kept id u (λ x. x) (λ v x _ w. Makes (Hear most) v x w)) (sym is)
+    (λ x views r at. makes_at id c seen (Hear most) tt x x views refl refl refl (as_many x.tokens) (unmarked x.tokens) r at)
+
+pub hears_picked : (id c : ℕ) (seen : List Call) (a : Action) (most : ℕ) → a ≡ Hear most → (v : List Observer) → v ≡ client_view c seen → Turns Kept id v (λ x. x) (λ v x _ w. Makes a v x w)
+hears_picked id c seen a most is v view = subst (λ (k : Action). Turns Kept id v (λ x. x) (λ v x _ w. Makes k v x w)) (sym is) (hears_turn id c seen most v view)
+
+says_turn : (id c : ℕ) (seen : List Call) (shown marked : ℕ) (v : List Observer) → v ≡ client_view c seen → Turns Kept id v (λ x. x) (λ v x _ w. Says (Say shown marked) v x w)
+says_turn id c seen shown marked v is = subst (λ (u : List Observer). Turns Kept id u (λ x. x) (λ v x _ w. Says (Say shown marked) v x w)) (sym is) (λ x. by_case x (cases_lt x.tokens marked))
+  where
+    by_case : (x : Numbers) → (x.tokens < marked) ⊎ (marked ≤ x.tokens) → TurnsAt Kept id (client_view c seen) x x (λ v x _ w. Says (Say shown marked) v x w)
+    by_case x (inl few) views r at =
+        let seen_now = sees_at id c seen [] no_notes x views r at in
+        (seen_now.0, seen_now.1, record { made = λ enough. absurd (omega (arith, few, enough)); other = λ _. seen_now.2 })
+    by_case x (inr enough) views r at =
+        let made = makes_at id c seen (Say shown marked) tt x x views refl refl refl (as_many x.tokens) enough r at in
+        (made.0, made.1, record { made = λ _. made.2; other = λ few. absurd (omega (arith, few, enough)) })
+
+pub says_picked : (id c : ℕ) (seen : List Call) (a : Action) (shown marked : ℕ) → a ≡ Say shown marked → (v : List Observer) → v ≡ client_view c seen → Turns Kept id v (λ x. x) (λ v x _ w. Says a v x w)
+says_picked id c seen a shown marked is v view = subst (λ (k : Action). Turns Kept id v (λ x. x) (λ v x _ w. Says k v x w)) (sym is) (says_turn id c seen shown marked v view)
+
 exchange_turn : (eq : Numbers → Numbers → Bool) → ((x y : Numbers) → eq x y ≡ true → x ≡ y) → ((x y : Numbers) → x ≡ y → eq x y ≡ true)
     → (id c : ℕ) (seen : List Call) (a : Action) (found new : Numbers) → MayCall a (asked_in c seen) → numbers_of new ≡ numbers_after (numbers_of found) (action_of a)
-    → new.held_up ≡ held_up_after c found.held_up (numbers_of found) (action_of a)
+    → new.held_up ≡ held_up_after c found.held_up (numbers_of found) (action_of a) → new.shown ≡ shown_after found.shown (action_of a)
+    → new.tokens ≡ found.tokens + token_weight (action_of a) → marked_of a ≡ 0
     → (v : List Observer) → v ≡ client_view c seen → Turns Kept id v (λ x. if eq x found then new else x) (λ v x _ w. Exchanges a found v x w)
-exchange_turn eq same here id c seen a found new may next held_up v is =
+exchange_turn eq same here id c seen a found new may next held_up shown tokens unsaid v is =
     subst (λ (u : List Observer). Turns Kept id u (λ x. if eq x found then new else x) (λ v x _ w. Exchanges a found v x w)) (sym is) (λ x. by_case x (eq x found) refl)
   where
     by_case : (x : Numbers) (b : Bool) → eq x found ≡ b → TurnsAt Kept id (client_view c seen) x (if b then new else x) (λ v x _ w. Exchanges a found v x w)
     by_case x true e views r at =
         let is : x ≡ found = same x found e in
         let made = makes_at id c seen a may x new views (next ∙ ap (λ n. numbers_after (numbers_of n) (action_of a)) (sym is))
-        (held_up ∙ ap (λ n. held_up_after c n.held_up (numbers_of n) (action_of a)) (sym is)) r at in
+        (held_up ∙ ap (λ n. held_up_after c n.held_up (numbers_of n) (action_of a)) (sym is)) (shown ∙ ap (λ (n : Numbers). shown_after n.shown (action_of a)) (sym is))
+        (tokens ∙ ap (λ (n : Numbers). n.tokens + token_weight (action_of a)) (sym is)) (omega (arith, unsaid)) r at in
         (made.0, made.1, record { made = λ _. made.2; other = λ ne. absurd (ne is) })
     by_case x false e views r at =
         let seen_now = sees_at id c seen [] no_notes x views r at in
         (seen_now.0, seen_now.1, record { made = λ is. absurd (true≢false (sym (here x found is) ∙ e)); other = λ _. seen_now.2 })
 
 pub closes_turn : (id : ℕ) (v : List Observer) → Turns Kept id v (λ x. x) (λ v _ _ w. Closes v w)
-closes_turn id v x views r at = (v, subst (Kept x) (sym (set_again views id v at)) r, record { view = refl; calls = r.calls; fits = r.each id v at })
+closes_turn id v x views r at = (v, subst (Kept x) (sym (set_again views id v at)) r, record { view = refl; calls = r.calls; fits = r.each id v at; marks = r.marks })
 
 -- Opening
 
@@ -99,11 +132,14 @@ weight_at_most : (b : Bool) → weight b ≤ 1
 weight_at_most true = omega arith
 weight_at_most false = omega arith
 
-pub begins : (x : Numbers) → numbers_of x ≡ controller.opening → x.held_up ≡ 0 → Kept x (others 0 ∷ [])
-begins x is held_up = record {
+pub begins : (x : Numbers) → numbers_of x ≡ controller.opening → x.held_up ≡ 0 → x.shown ≡ 0 → x.tokens ≡ 0 → Kept x (others 0 ∷ [])
+begins x is held_up shown tokens = record {
   calls = [];
   numbers = is;
   held_up = held_up;
+  shown = shown;
+  tokens = tokens;
+  marks = none_marked;
   rate = subst (λ n. 1 ≤ n.rate) (sym is) (omega arith);
   each = each;
   alone = λ c. omega (arith, total_one (coverage c) (observer (Others 0) []), weight_at_most (covers (Others 0) c));
@@ -214,7 +250,7 @@ joins id other v w x views r at apart there = merged x views id v r at other w a
 -- Numbers are compared field by field
 
 abbrev pub eq_numbers : Numbers → Numbers → Bool
-eq_numbers x y = (x.stops == y.stops) && ((x.delays == y.delays) && ((x.rate == y.rate) && ((x.credit == y.credit) && ((x.next == y.next) && (x.held_up == y.held_up)))))
+eq_numbers x y = (x.stops == y.stops) && ((x.delays == y.delays) && ((x.rate == y.rate) && ((x.credit == y.credit) && ((x.next == y.next) && ((x.held_up == y.held_up) && ((x.shown == y.shown) && (x.tokens == y.tokens)))))))
 
 pub eq_same : (x y : Numbers) → eq_numbers x y ≡ true → x ≡ y
 eq_same x y e =
@@ -228,19 +264,24 @@ eq_same x y e =
     let rate = same_number x.rate y.rate c.0 in
     let credit = same_number x.credit y.credit d.0 in
     let next = same_number x.next y.next f.0 in
-    let held_up = same_number x.held_up y.held_up f.1 in
-    λ i. record { stops = stops i; delays = delays i; rate = rate i; credit = credit i; next = next i; held_up = held_up i }
+    let h = and_both (x.held_up == y.held_up) _ f.1 in
+    let held_up = same_number x.held_up y.held_up h.0 in
+    let k = and_both (x.shown == y.shown) _ h.1 in
+    let shown = same_number x.shown y.shown k.0 in
+    let tokens = same_number x.tokens y.tokens k.1 in
+    λ i. record { stops = stops i; delays = delays i; rate = rate i; credit = credit i; next = next i; held_up = held_up i; shown = shown i; tokens = tokens i }
 
 pub eq_here : (x y : Numbers) → x ≡ y → eq_numbers x y ≡ true
 eq_here x y e = subst (λ (z : Numbers). eq_numbers x z ≡ true) e (whole x)
   where
     whole : (x : Numbers) → eq_numbers x x ≡ true
-    whole x = rw (equal_number x.stops x.stops refl, equal_number x.delays x.delays refl, equal_number x.rate x.rate refl, equal_number x.credit x.credit refl, equal_number x.next x.next refl, equal_number x.held_up x.held_up refl) refl
+    whole x = rw (equal_number x.stops x.stops refl, equal_number x.delays x.delays refl, equal_number x.rate x.rate refl, equal_number x.credit x.credit refl, equal_number x.next x.next refl, equal_number x.held_up x.held_up refl, equal_number x.shown x.shown refl, equal_number x.tokens x.tokens refl) refl
 
 pub exchanges : (eq : Numbers → Numbers → Bool) → ((x y : Numbers) → eq x y ≡ true → x ≡ y) → ((x y : Numbers) → x ≡ y → eq x y ≡ true)
     → (id c : ℕ) (seen : List Call) (a b : Action) (found again new : Numbers) → a ≡ b → again ≡ found → MayCall b (asked_in c seen) → numbers_of new ≡ numbers_after (numbers_of found) (action_of b)
-    → new.held_up ≡ held_up_after c found.held_up (numbers_of found) (action_of b)
+    → new.held_up ≡ held_up_after c found.held_up (numbers_of found) (action_of b) → new.shown ≡ shown_after found.shown (action_of b)
+    → new.tokens ≡ found.tokens + token_weight (action_of b) → marked_of b ≡ 0
     → (v : List Observer) → v ≡ client_view c seen → Turns Kept id v (λ x. if eq x found then new else x) (λ v x _ w. Exchanges a again v x w)
-exchanges eq same here id c seen a b found again new is at may next held_up v view =
+exchanges eq same here id c seen a b found again new is at may next held_up shown tokens unsaid v view =
     subst (λ (k : Action). Turns Kept id v (λ x. if eq x found then new else x) (λ v x _ w. Exchanges k again v x w)) (sym is)
-    (subst (λ (n : Numbers). Turns Kept id v (λ x. if eq x found then new else x) (λ v x _ w. Exchanges b n v x w)) (sym at) (exchange_turn eq same here id c seen b found new may next held_up v view))
+    (subst (λ (n : Numbers). Turns Kept id v (λ x. if eq x found then new else x) (λ v x _ w. Exchanges b n v x w)) (sym at) (exchange_turn eq same here id c seen b found new may next held_up shown tokens unsaid v view))

@@ -60,7 +60,7 @@ asked_from groups n p (t ∷ calls) within each = (
       (λ c low high. all_back (HasPlace groups) (place_if ((t.client == c) && is_delay t.action) p) (delays_from c (p + 1) calls) (each c low high)),
 )
 
-there_is : {A : Type 0} (xs : List A) (i : ℕ) → i < length xs → (x : A) × (slice_get xs i ≡ Some x)
+pub there_is : {A : Type 0} (xs : List A) (i : ℕ) → i < length xs → (x : A) × (slice_get xs i ≡ Some x)
 there_is [] i h = absurd (omega (arith, h))
 there_is (x ∷ xs) zero h = (x, refl)
 there_is (x ∷ xs) (suc i) h = there_is xs i (omega (arith, h))

@@ -1,5 +1,5 @@
 -- Whose delay was the last one that was told that writes are held up.
-use Rattle.std.proofs.Common.{◌≡◌, ◌≢◌, ◌⊎◌, ℕ, suc, ◌+◌, ◌-◌, ◌<◌, ◌≤◌, Bool, true, false, true≢false, List, [], ◌∷◌, ◌++◌, length, length-append, Some, sym, ap, ◌∙◌, refl, subst, arith, inl, inr, ⊎_elim}
+use Rattle.std.proofs.Common.{◌≡◌, ◌≢◌, ◌⊎◌, ℕ, suc, ◌+◌, ◌-◌, ◌<◌, Bool, true, false, true≢false, List, [], ◌∷◌, ◌++◌, length, length-append, Some, sym, ap, ◌∙◌, refl, subst, arith, inl, inr, ⊎_elim}
 use Rattle.std.proofs.lemmas.Bool.Decides.{nat_tests}
 use Rattle.std.specs.Prelude.{nat_lt, ◌||◌, ◌&&◌, if◌then◌else◌}
 use Rattle.model_base.specs.Controller as controller
@@ -9,7 +9,7 @@ use Rattle.model_base.proofs.Prefixes.{prefix_self}
 use Rattle.model_base.proofs.Runs.{held_up_in}
 use Rattle.engine_controller.specs.declared.numbers.Numbers.{Numbers}
 use Rattle.engine_controller.specs.declared.numbers.Action.{Action}
-use Rattle.engine_controller.specs.declared.numbers.Action.TheVariants.{Stop, Unstop, Slow, Unslow, Delay, Look}
+use Rattle.engine_controller.specs.declared.numbers.Action.TheVariants.{Stop, Unstop, Slow, Unslow, Delay, Look, Say, Hear}
 use Rattle.engine_controller.specs.declared.rule.Call.{Call}
 use Rattle.engine_controller.specs.declared.rule.Observer.{Observer}
 use Rattle.engine_controller.specs.Numbers.{action_of, holds_up, held_up_after}
@@ -47,10 +47,10 @@ by_call : (client held_up : ℕ) (n : controller.Numbers) (a : Action) (rest : L
     → (held_up_after client held_up n (action_of a) ≡ held_up)
     ⊎ WasHeldUp (record { client = client; action = action_of a; told = answer n (action_of a) } ∷ rest)
     (held_up_after client held_up n (action_of a)) 1
-by_call client held_up n Stop rest = inl refl
-by_call client held_up n Unstop rest = inl refl
-by_call client held_up n (Slow rate) rest = inl refl
-by_call client held_up n Unslow rest = inl refl
+by_call client held_up n (Stop shown) rest = inl refl
+by_call client held_up n (Unstop shown) rest = inl refl
+by_call client held_up n (Slow rate shown) rest = inl refl
+by_call client held_up n (Unslow shown) rest = inl refl
 by_call client held_up n (Delay now bytes) rest = by_case (holds_up (look_with n (after_delay n now bytes).wait)) refl
   where
     told : controller.Look
@@ -63,6 +63,8 @@ by_call client held_up n (Delay now bytes) rest = by_case (holds_up (look_with n
     by_case true e = inr (record { at = 0; now = now; bytes = bytes; told = told; there = refl; before = omega arith; holds_up = hold_up told e })
     by_case false e = inl refl
 by_call client held_up n Look rest = inl refl
+by_call client held_up n (Say shown marked) rest = inl refl
+by_call client held_up n (Hear most) rest = inl refl
 
 -- the client was told so among these calls, or it is the one that was told last before them
 pub held_up_by : (held_up : ℕ) (n : controller.Numbers) (calls : List Call)

@@ -16,11 +16,12 @@ use Rattle.engine_controller.specs.declared.rule.Call.{Call}
 use Rattle.engine_controller.specs.declared.rule.Observer.{Observer}
 use Rattle.engine_controller.specs.declared.rule.Caller.{Caller}
 use Rattle.engine_controller.specs.declared.rule.Caller.TheVariants.{Nobody, Client, Others}
-use Rattle.engine_controller.specs.Numbers.{numbers_of, action_of, held_up_after}
-use Rattle.engine_controller.specs.Rule.{numbers_at, held_up_at, asked_in, call, observer, client_view, covers, coverage, IsOfOthers, Fits, weight, tokens_held, share, total, Kept, IsInRange, Sees, Makes, MayCall}
+use Rattle.engine_controller.specs.Numbers.{numbers_of, action_of, held_up_after, shown_after, token_weight}
+use Rattle.engine_controller.specs.Rule.{numbers_at, held_up_at, shown_at, tokens_in, marked_of, AreMarked, asked_in, call, observer, client_view, covers, coverage, IsOfOthers, Fits, weight, tokens_held, share, total, Kept, IsInRange, Sees, Makes, MayCall}
 use Rattle.engine_controller.specs.Passes.{token_in}
 use Rattle.engine_controller.proofs.Totals.{sum_set, sum_snoc, sum_one, sum_two, sum_single, sum_at_most, all_append, all_map}
-use Rattle.engine_controller.proofs.Histories.{numbers_append, held_up_append}
+use Rattle.engine_controller.proofs.Histories.{numbers_append, held_up_append, shown_more}
+use Rattle.engine_controller.proofs.Counted.{counted_more, marked_more}
 use Rattle.engine_controller.proofs.Unchanged.{rate_after}
 use Rattle.engine_controller.proofs.Asked.{same_client, not_that_client, asked_behind, asked_more, stop_held, slow_held, stops_count, delays_count}
 
@@ -53,17 +54,20 @@ in_range x views r = record {
 -- One pass moves
 
 module _ (x : Numbers) (views : Views) (id : ℕ) (v : List Observer) (r : Kept x views) (at : get_elem? views id ≡ some v) where
-  pub moved : (y : Numbers) (w : List Observer) (calls : List Call) → numbers_of y ≡ numbers_at calls → y.held_up ≡ held_up_at calls → 1 ≤ y.rate → AllByRecursion (Fits calls) w
+  pub moved : (y : Numbers) (w : List Observer) (calls : List Call) → numbers_of y ≡ numbers_at calls → y.held_up ≡ held_up_at calls → y.shown ≡ shown_at calls → y.tokens ≡ tokens_in calls → AreMarked calls → 1 ≤ y.rate → AllByRecursion (Fits calls) w
       → ((j : ℕ) (u : List Observer) → j ≢ id → get_elem? views j ≡ some u → AllByRecursion (Fits calls) u)
       → ((c : ℕ) → sum_by (coverage c) w ≡ sum_by (coverage c) v)
       → y.stops + sum_by (tokens_held holds_stop) v ≡ x.stops + sum_by (tokens_held holds_stop) w
       → y.delays + sum_by (tokens_held holds_slow) v ≡ x.delays + sum_by (tokens_held holds_slow) w
       → sum_by share w ≡ sum_by share v
       → Kept y (set views id w)
-  moved y w calls n held_up rate fits rest same stops delays shares = record {
+  moved y w calls n held_up shown tokens marks rate fits rest same stops delays shares = record {
     calls = calls;
     numbers = n;
     held_up = held_up;
+    shown = shown;
+    tokens = tokens;
+    marks = marks;
     rate = rate;
     each = λ j u e. ⊎_elim (λ (t : (j ≡ id) × (w ≡ u)). subst (AllByRecursion (Fits calls)) t.1 fits) (λ (t : (j ≢ id) × (get_elem? views j ≡ some u)). rest j u t.0 t.1) (at_set views id j w u e);
     alone = λ c. omega (arith, sum_set (λ (u : List Observer). sum_by (coverage c) u) views id v w at, same c, r.alone c);
@@ -82,6 +86,9 @@ module _ (x : Numbers) (views : Views) (id : ℕ) (v : List Observer) (r : Kept 
     calls = r.calls;
     numbers = r.numbers;
     held_up = r.held_up;
+    shown = r.shown;
+    tokens = r.tokens;
+    marks = r.marks;
     rate = r.rate;
     each = λ j u e. ⊎_elim
         (λ (was : get_elem? (set views id left) j ≡ some u).
@@ -109,6 +116,9 @@ module _ (x : Numbers) (views : Views) (id : ℕ) (v : List Observer) (r : Kept 
         calls = r.calls;
         numbers = r.numbers;
         held_up = r.held_up;
+        shown = r.shown;
+        tokens = r.tokens;
+        marks = r.marks;
         rate = r.rate;
         each = λ j u e. ⊎_elim
             (λ (t : (j ≡ other) × ([] ≡ u)). subst (AllByRecursion (Fits r.calls)) t.1 tt)
@@ -174,7 +184,7 @@ module _ (id c : ℕ) (seen : List Call) (notes : List Observer) (quiet : AreNot
       let asked : asked_in c r.calls ≡ asked_in c seen = ap (asked_in c) (sym mine.begins) ∙ asked_behind c seen mine.rest mine.behind in
       let sums : (f : Observer → ℕ) → sum_by f notes ≡ 0 → f (observer (Client c) r.calls) ≡ f (observer (Client c) seen) → sum_by f w ≡ sum_by f v = λ f z e. omega (arith, sum_single f (observer (Client c) r.calls), sum_by-cons f (observer (Client c) seen) notes, z, e) in (
         w,
-        moved x views id v r at x w r.calls r.numbers r.held_up r.rate (fits_whole c r.calls, tt) (λ j u _ e. r.each j u e)
+        moved x views id v r at x w r.calls r.numbers r.held_up r.shown r.tokens r.marks r.rate (fits_whole c r.calls, tt) (λ j u _ e. r.each j u e)
             (λ d. sums (coverage d) (quiet.cover d) refl)
             (ap (λ k. x.stops + k) (sym (sums (tokens_held holds_stop) quiet.stop (ap (λ l. weight (holds_stop l)) asked))))
             (ap (λ k. x.delays + k) (sym (sums (tokens_held holds_slow) quiet.slow (ap (λ l. weight (holds_slow l)) asked))))
@@ -185,6 +195,8 @@ module _ (id c : ℕ) (seen : List Call) (notes : List Observer) (quiet : AreNot
           others = all_map (IsOfOthers (Client c)) (λ (k : Call). k.client ≢ c) (λ k h. not_that_client k.client c h) mine.rest mine.behind;
           known = all_map (Fits r.calls) (λ (u : Observer). IsPrefix u.seen (seen ++ mine.rest)) (λ u f. (f.rest, f.begins ∙ sym mine.begins)) v fits;
           numbers = r.numbers ∙ ap numbers_at (sym mine.begins);
+          shown = r.shown ∙ ap shown_at (sym mine.begins);
+          tokens = r.tokens ∙ ap tokens_in (sym mine.begins);
           range = in_range x views r;
         },
       )
@@ -192,9 +204,9 @@ module _ (id c : ℕ) (seen : List Call) (notes : List Observer) (quiet : AreNot
 module _ (id c : ℕ) (seen : List Call) (a : Action) (may : MayCall a (asked_in c seen)) where
   -- a call is made
   pub makes_at : (x y : Numbers) (views : Views) → numbers_of y ≡ numbers_after (numbers_of x) (action_of a)
-      → y.held_up ≡ held_up_after c x.held_up (numbers_of x) (action_of a) → Kept x views → get_elem? views id ≡ some (client_view c seen)
+      → y.held_up ≡ held_up_after c x.held_up (numbers_of x) (action_of a) → y.shown ≡ shown_after x.shown (action_of a) → y.tokens ≡ x.tokens + token_weight (action_of a) → marked_of a ≤ x.tokens → Kept x views → get_elem? views id ≡ some (client_view c seen)
       → (w : List Observer) × Kept y (set views id w) × Makes a (client_view c seen) x w
-  makes_at x y views new held_up r at =
+  makes_at x y views new held_up shown tokens marked r at =
       let v : List Observer = client_view c seen in
       let mine = (r.each id v at).0 in
       let next : List Call = r.calls ++ call c a ∷ [] in
@@ -213,6 +225,9 @@ module _ (id c : ℕ) (seen : List Call) (a : Action) (may : MayCall a (asked_in
         moved x views id v r at y w next
             (new ∙ ap (λ n. numbers_after n (action_of a)) r.numbers ∙ sym (numbers_append controller.opening r.calls (call c a ∷ [])))
             (held_up ∙ (λ i. held_up_after c (r.held_up i) (r.numbers i) (action_of a)) ∙ sym (held_up_append 0 controller.opening r.calls (call c a ∷ [])))
+            (shown ∙ ap (λ n. shown_after n (action_of a)) r.shown ∙ sym (shown_more r.calls c a))
+            (tokens ∙ ap (λ n. n + token_weight (action_of a)) r.tokens ∙ sym (counted_more r.calls c a))
+            (marked_more r.calls (call c a) r.marks (subst (λ n. marked_of a ≤ n) r.tokens marked))
             (subst (λ n. 1 ≤ n.rate) (sym new) (rate_after (numbers_of x) (action_of a) r.rate))
             (fits_whole c next, tt)
             (λ j u apart e. fits_more r.calls c a u (omega (arith, r.alone c, sum_two (λ (u : List Observer). sum_by (coverage c) u) views j id u v apart e at, covers_once c seen)) (r.each j u e))
@@ -226,6 +241,8 @@ module _ (id c : ℕ) (seen : List Call) (a : Action) (may : MayCall a (asked_in
           others = all_map (IsOfOthers (Client c)) (λ (k : Call). k.client ≢ c) (λ k h. not_that_client k.client c h) mine.rest mine.behind;
           numbers = r.numbers ∙ ap numbers_at (sym mine.begins);
           held_up = r.held_up ∙ ap held_up_at (sym mine.begins);
+          shown = r.shown ∙ ap shown_at (sym mine.begins);
+          tokens = r.tokens ∙ ap tokens_in (sym mine.begins);
           own_stop = λ holds. subst (λ b. weight b ≤ x.stops) holds stop;
         },
       )

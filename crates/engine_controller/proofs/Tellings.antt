@@ -5,16 +5,16 @@ use Rattle.std.specs.List.{AllByRecursion}
 use mathlib.Core.List.{IsPrefix}
 use Rattle.model_base.specs.Controller as controller
 use Rattle.model_base.specs.Controller.{ControllerCall, answer}
-use Rattle.model_base.specs.Tokens.{holds_stop, holds_slow, stop_after, slow_after}
+use Rattle.model_base.specs.Tokens.{holds_stop, holds_slow, stop_after, slow_after, shown_by_tokens}
 use Rattle.engine_controller.specs.declared.numbers.Numbers.{Numbers}
 use Rattle.engine_controller.specs.declared.numbers.Action.{Action}
 use Rattle.engine_controller.specs.declared.rule.Call.{Call}
 use Rattle.engine_controller.specs.declared.rule.Observer.{Observer}
-use Rattle.engine_controller.specs.Numbers.{numbers_of, action_of}
-use Rattle.engine_controller.specs.Rule.{numbers_at, held_up_at, history_from, history_of, asked_in, call, observer, client_view, client_in, seen_in, IsClientView, AreNotOf, Sees, Makes}
+use Rattle.engine_controller.specs.Numbers.{numbers_of, action_of, shown_after}
+use Rattle.engine_controller.specs.Rule.{numbers_at, held_up_at, shown_at, tokens_in, history_from, history_of, asked_in, call, observer, client_view, client_in, seen_in, IsClientView, AreNotOf, Sees, Makes}
 use Rattle.engine_controller.specs.Passes.{GoesOn, EndsWith, token_in}
 use Rattle.engine_controller.proofs.Totals.{all_append, all_map}
-use Rattle.engine_controller.proofs.Histories.{history_append, legal_from, others_from, history_prefix}
+use Rattle.engine_controller.proofs.Histories.{history_append, legal_from, others_from, history_prefix, shown_more}
 use Rattle.engine_controller.specs.declared.rule.Caller.TheVariants.{Nobody, Client}
 use Rattle.engine_controller.proofs.Asked.{other_client, asked_behind, asked_more, stop_held, slow_held}
 
@@ -84,6 +84,8 @@ follows_makes v w u a x f m =
       others = all_append (λ (k : Call). k.client ≢ client_in v) f.between m.between f.others (subst (λ c. AreNotOf c m.between) client m.others);
       numbers = m.numbers ∙ ap numbers_at all;
       held_up = m.held_up ∙ ap held_up_at all;
+      shown = m.shown ∙ ap shown_at all;
+      tokens = m.tokens ∙ ap tokens_in all;
       own_stop = λ holds. m.own_stop (ap holds_stop (follows_asked v w f) ∙ holds);
     }
 
@@ -105,11 +107,21 @@ module _ (a : Action) (v : List Observer) (x : Numbers) (w : List Observer) (m :
   pub made_slow : holds_slow (asked_in (client_in w) (seen_in w)) ≡ slow_after (holds_slow (asked_in (client_in v) (seen_in v))) (action_of a)
   made_slow = ap holds_slow made_asked ∙ slow_held a (asked_in (client_in v) (seen_in v))
 
+  -- the greatest number of the token calls, after this call
+  pub made_shown : shown_by_tokens (history_of (seen_in w)) ≡ shown_after x.shown (action_of a)
+  made_shown =
+      ap (λ (u : List Observer). shown_at (seen_in u)) m.view ∙ shown_more (seen_in v ++ m.between) (client_in v) a
+      ∙ ap (λ n. shown_after n (action_of a)) (sym m.shown)
+
   pub made_ends : EndsWith (client_in v) (history_of (seen_in v)) (action_of a) (answer (numbers_of x) (action_of a)) (history_of (seen_in w))
   made_ends =
       subst (λ l. EndsWith (client_in v) (history_of (seen_in v)) (action_of a) (answer (numbers_of x) (action_of a)) (history_of l)) (sym (ap seen_in m.view))
       (subst (λ n. EndsWith (client_in v) (history_of (seen_in v)) (action_of a) (answer n (action_of a)) (history_of ((seen_in v ++ m.between) ++ call (client_in v) a ∷ []))) (sym m.numbers)
       (ends_with (client_in v) (seen_in v) m.between a m.others))
+
+-- what a load found is the greatest number of the token calls that are now seen
+pub sees_shown : (v : List Observer) (x y : Numbers) (w : List Observer) → Sees v x y w → x.shown ≡ shown_by_tokens (history_of (seen_in w))
+sees_shown v x y w s = s.shown ∙ sym (ap (λ (u : List Observer). shown_at (seen_in u)) s.view)
 
 -- the answer that a call returns is the one that the history has for it
 pub ends_told : (c : ℕ) (seen : List ControllerCall) (a : controller.Action) (told answered : controller.Look) (after : List ControllerCall)

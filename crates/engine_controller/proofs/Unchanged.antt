@@ -2,7 +2,7 @@
 use Rattle.std.proofs.Common.{◌≡◌, ℕ, ◌+◌, ◌≤◌, Bool, true, false, true≢false, sym, ap, ◌∙◌, refl, subst, arith}
 use Rattle.std.proofs.lemmas.Bool.Decides.{nat_tests}
 use Rattle.std.specs.Prelude.{if◌then◌else◌, ◌==◌, nat_le, nat_lt, ◌||◌, ◌&&◌}
-use Rattle.model_base.specs.Controller.{Numbers, Action, stop, unstop, slow, unslow, delay, look, numbers_after, after_delay, after_slow, After, after_refill, after_payment, after_start, after_due_refill}
+use Rattle.model_base.specs.Controller.{Numbers, Action, stop, unstop, slow, unslow, delay, look, say, hear, numbers_after, after_delay, after_slow, After, after_refill, after_payment, after_start, after_due_refill}
 use Rattle.engine_controller.specs.Numbers.{held_up_after}
 
 on_if : {A : Type 0} (P : A → Type 0) (b : Bool) (x y : A) → P x → P y → P (if b then x else y)
@@ -65,9 +65,11 @@ slowed_delays n rate = refl
 
 -- a rate that is at least 1 stays so after a call
 pub rate_after : (n : Numbers) (a : Action) → 1 ≤ n.rate → 1 ≤ (numbers_after n a).rate
-rate_after n stop h = h
-rate_after n unstop h = h
-rate_after n (slow rate) h = omega arith
-rate_after n unslow h = h
+rate_after n (stop shown) h = h
+rate_after n (unstop shown) h = h
+rate_after n (slow rate shown) h = omega arith
+rate_after n (unslow shown) h = h
 rate_after n (delay now bytes) h = subst (λ r. 1 ≤ r) (sym (leaves_delayed n now bytes).2) h
 rate_after n look h = h
+rate_after n (say shown) h = h
+rate_after n (hear most) h = h

@@ -1,20 +1,20 @@
--- The rule of the controller's six words, and what each step on them shows.
-use Rattle.std.specs.Prelude.{◌≡◌, ◌≢◌, ℕ, ◌+◌, ◌-◌, ◌^◌, ◌≤◌, Bool, true, false, ◌||◌, ◌&&◌, List, [], ◌∷◌, ◌++◌, ◌==◌, nat_lt, ⊤, Option, IfSome}
+-- The rule of the controller's eight words, and what each step on them shows.
+use Rattle.std.specs.Prelude.{◌≡◌, ◌≢◌, ℕ, ◌+◌, ◌-◌, ◌^◌, ◌≤◌, Bool, true, false, ◌||◌, ◌&&◌, List, [], ◌∷◌, ◌++◌, ◌==◌, nat_lt, ⊤, Option, Some, IfSome, ◌<◌, if◌then◌else◌, take, slice_get}
 use Rattle.std.specs.List.{AllByRecursion, sum_by}
 use mathlib.Core.Option.{some}
 use mathlib.Core.List.{IsPrefix}
 use lib.ListN.{get_elem?}
 use Rattle.model_base.specs.Controller as controller
 use Rattle.model_base.specs.Controller.{ControllerCall, numbers_after, answer}
-use Rattle.model_base.specs.Tokens.{tokens_of, holds_stop, holds_slow}
+use Rattle.model_base.specs.Tokens.{is_token, tokens_of, holds_stop, holds_slow, shown_by_tokens}
 use Rattle.engine_controller.specs.declared.numbers.Numbers.{Numbers}
 use Rattle.engine_controller.specs.declared.numbers.Action.{Action}
-use Rattle.engine_controller.specs.declared.numbers.Action.TheVariants.{Stop, Unstop, Slow, Unslow, Delay, Look}
+use Rattle.engine_controller.specs.declared.numbers.Action.TheVariants.{Stop, Unstop, Slow, Unslow, Delay, Look, Say, Hear}
 use Rattle.engine_controller.specs.declared.rule.Call.{Call}
 use Rattle.engine_controller.specs.declared.rule.Observer.{Observer}
 use Rattle.engine_controller.specs.declared.rule.Caller.{Caller}
 use Rattle.engine_controller.specs.declared.rule.Caller.TheVariants.{Nobody, Client, Others}
-use Rattle.engine_controller.specs.Numbers.{numbers_of, action_of, held_up_after}
+use Rattle.engine_controller.specs.Numbers.{numbers_of, action_of, held_up_after, token_weight}
 
 -- Calls
 
@@ -45,6 +45,31 @@ held_up_at calls = held_up_from 0 controller.opening calls
 
 abbrev pub history_of : List Call → List ControllerCall
 history_of calls = history_from controller.opening calls
+
+-- the greatest number of those of these calls that took a token or gave one back
+abbrev pub shown_at : List Call → ℕ
+shown_at calls = shown_by_tokens (history_of calls)
+
+-- how many of these calls took a token or gave one back
+abbrev pub tokens_in : List Call → ℕ
+tokens_in [] = 0
+tokens_in (c ∷ calls) = token_weight (action_of c.action) + tokens_in calls
+
+-- how many of these calls there are up to the client's newest token call, with it; 0 where there is none
+abbrev pub newest_token : ℕ → List Call → ℕ
+newest_token client [] = 0
+newest_token client (c ∷ calls) =
+    if nat_lt 0 (newest_token client calls) || ((c.client == client) && is_token (action_of c.action))
+    then newest_token client calls + 1 else 0
+
+-- the mark that a client found on the board once it had said there what this call says; 0 where it says nothing
+abbrev pub marked_of : Action → ℕ
+marked_of (Say shown marked) = marked
+marked_of other = 0
+
+-- no mark that was found is above how many token calls there were before
+abbrev pub AreMarked : List Call → Type 0
+AreMarked calls = (at : ℕ) (c : Call) → slice_get calls at ≡ Some c → marked_of c.action ≤ tokens_in (take at calls)
 
 abbrev pub call : ℕ → Action → Call
 call client action = record { client = client; action = action }
@@ -161,13 +186,17 @@ share v = share_of v.caller
 abbrev pub total : (Observer → ℕ) → List (List Observer) → ℕ
 total f views = sum_by (λ (v : List Observer). sum_by f v) views
 
--- There is one history of calls. The words are the numbers after it, and the client that was the last one in it to
--- learn that writes are held up. Each observer has seen a beginning of it, and no later call is its own. At most one
--- observer covers a client. The words `stops` and `delays` are how many clients hold a stop token and a slow token.
+-- There is one history of calls. The words are the numbers after it, the client that was the last one in it to learn
+-- that writes are held up, and the greatest number of its calls that took a token or gave one back, and how many of
+-- those there were. Each observer has seen a beginning of it, and no later call is its own. At most one observer covers
+-- a client. The words `stops` and `delays` are how many clients hold a stop token and a slow token.
 pub record Kept (x : Numbers) (views : List (List Observer)) : Type 0 where
   pub calls : List Call
   pub numbers : numbers_of x ≡ numbers_at calls
   pub held_up : x.held_up ≡ held_up_at calls
+  pub shown : x.shown ≡ shown_at calls
+  pub tokens : x.tokens ≡ tokens_in calls
+  pub marks : AreMarked calls
   pub rate : 1 ≤ x.rate
   pub each : (i : ℕ) (v : List Observer) → get_elem? views i ≡ some v → AllByRecursion (Fits calls) v
   pub alone : (client : ℕ) → total (coverage client) views ≤ 1
@@ -194,6 +223,8 @@ pub record Sees (v : List Observer) (x y : Numbers) (w : List Observer) : Type 0
   pub others : AreNotOf (client_in v) between
   pub known : AllByRecursion (λ (u : Observer). IsPrefix u.seen (seen_in v ++ between)) v
   pub numbers : numbers_of x ≡ numbers_at (seen_in v ++ between)
+  pub shown : x.shown ≡ shown_at (seen_in v ++ between)
+  pub tokens : x.tokens ≡ tokens_in (seen_in v ++ between)
   pub range : IsInRange x
 
 -- the client has made a call, which is the last one of the history so far
@@ -203,6 +234,8 @@ pub record Makes (action : Action) (v : List Observer) (x : Numbers) (w : List O
   pub others : AreNotOf (client_in v) between
   pub numbers : numbers_of x ≡ numbers_at (seen_in v ++ between)
   pub held_up : x.held_up ≡ held_up_at (seen_in v ++ between)
+  pub shown : x.shown ≡ shown_at (seen_in v ++ between)
+  pub tokens : x.tokens ≡ tokens_in (seen_in v ++ between)
   -- where the client holds a stop token, `stops` counts it
   pub own_stop : holds_stop (asked_in (client_in v) (seen_in v)) ≡ true → 1 ≤ x.stops
 
@@ -226,17 +259,26 @@ pub record Asks (action : Action) (v : List Observer) (x : Numbers) (w : List Ob
   pub made : is_free x ≡ true → Makes action v x w
   pub other : is_free x ≡ false → Sees v x x w
 
--- there is a history that fits all the observers
+-- A load that says something makes the call where the controller counts as many token calls as the mark that was found,
+-- or more. Such a call changes no word.
+pub record Says (action : Action) (v : List Observer) (x : Numbers) (w : List Observer) : Type 0 where
+  pub made : marked_of action ≤ x.tokens → Makes action v x w
+  pub other : x.tokens < marked_of action → Sees v x x w
+
+-- there is a history that fits all the observers, and in it the marks are right
 pub record Closes (v w : List Observer) : Type 0 where
   pub view : w ≡ v
   pub calls : List Call
   pub fits : AllByRecursion (Fits calls) v
+  pub marks : AreMarked calls
 
 -- a client takes a token only while it holds none of that kind, and gives back only a token that it holds
 abbrev pub MayCall : Action → List controller.Action → Type 0
-MayCall Stop asked = holds_stop asked ≡ false
-MayCall Unstop asked = holds_stop asked ≡ true
-MayCall (Slow rate) asked = holds_slow asked ≡ false
-MayCall Unslow asked = holds_slow asked ≡ true
+MayCall (Stop shown) asked = holds_stop asked ≡ false
+MayCall (Unstop shown) asked = holds_stop asked ≡ true
+MayCall (Slow rate shown) asked = holds_slow asked ≡ false
+MayCall (Unslow shown) asked = holds_slow asked ≡ true
 MayCall (Delay now bytes) asked = ⊤
 MayCall Look asked = ⊤
+MayCall (Say shown marked) asked = ⊤
+MayCall (Hear most) asked = ⊤

@@ -4,7 +4,7 @@ ghost use Rattle.std.specs.Prelude.{◌≡◌, ◌≢◌, ◌≤◌, ◌-◌, �
 ghost use mathlib.Core.List.{IsPrefix};
 ghost use Rattle.model_base.specs.Controller.{delay, look};
 ghost use Rattle.model_base.specs.Replies.{WasHeldUp};
-ghost use Rattle.model_base.specs.Tokens.{holds_stop};
+ghost use Rattle.model_base.specs.Tokens.{holds_stop, shown_by_tokens};
 ghost use Rattle.engine_controller.specs.Looks.{look_of};
 ghost use Rattle.engine_controller.specs.Passes.{client_of, seen_by, asked_by, last_held_up, seen_by_note};
 ghost use Rattle.engine_controller.specs.Passes.{IsPassOf, IsNoteOf, GoesOn, EndsWith};
@@ -38,15 +38,18 @@ impl<Time: Clock> Controller<Time> {
         // Where no client stops or slows writes, this load is the whole call, and no word is written.
         let found = self.ask_unslowed::<Brand, R>(rt, &mut pass.seat, clock, bytes);
         if found.stops == 0 && found.delays == 0 {
+            pass.shown = found.shown;
             return Look::new(0, 0, 0);
         }
         let now = clock.now();
-        self.call(
+        let (told, new) = self.call(
             rt,
             &mut pass.seat,
             pass.number,
             Action::Delay { now, bytes },
-        )
+        );
+        pass.shown = new.shown;
+        told
     }
 
     /// Reads how many clients stop writes, and how many slow them. A client that stops writes itself is counted too.
@@ -59,6 +62,7 @@ impl<Time: Clock> Controller<Time> {
         ensures stopped { holds_stop (asked_by pass.old) ≡ true → 1 ≤ (look_of result).stops }
     {
         let found = load::<Looking, R>(&self.cell, rt, &mut pass.seat);
+        pass.shown = found.shown;
         Look::new(found.stops, found.delays, 0)
     }
 
@@ -73,6 +77,7 @@ impl<Time: Clock> Controller<Time> {
         ensures stalled { result.1 ≢ 0 → WasHeldUp (seen_by pass.new) result.1 (length (seen_by pass.new) - 1) }
     {
         let found = load::<Looking, R>(&self.cell, rt, &mut pass.seat);
+        pass.shown = found.shown;
         (Look::new(found.stops, found.delays, 0), found.held_up)
     }
 
@@ -85,7 +90,16 @@ impl<Time: Clock> Controller<Time> {
     {
         Note {
             seat: split::<Copied>(&self.cell, &mut pass.seat),
+            shown: pass.shown,
         }
+    }
+
+    /// The greatest number of the calls that took a token or gave one back, among those that the note shows: the
+    /// clients that made them had been shown what is published up to no further than that.
+    pub fn shown_by(&self, note: &Note) -> u64
+        ensures { result ≡ shown_by_tokens (seen_by_note note.now) }
+    {
+        note.shown
     }
 
     /// Makes two notes of one. It is no call.
@@ -93,12 +107,14 @@ impl<Time: Clock> Controller<Time> {
         requires { IsNoteOf self.now note }
         ensures { (result.0 ≡ note) × (result.1 ≡ note) }
     {
-        let Note { mut seat } = note;
+        let Note { mut seat, shown } = note;
         let one = Note {
             seat: split::<Copied>(&self.cell, &mut seat),
+            shown,
         };
         let two = Note {
             seat: split::<Copied>(&self.cell, &mut seat),
+            shown,
         };
         (one, two)
     }
@@ -113,6 +129,7 @@ impl<Time: Clock> Controller<Time> {
     {
         join(&self.cell, &mut pass.seat, note.seat);
         // Only a step on the words shows that both are beginnings of one history.
-        load::<Sight, R>(&self.cell, rt, &mut pass.seat);
+        let found = load::<Sight, R>(&self.cell, rt, &mut pass.seat);
+        pass.shown = found.shown;
     }
 }

@@ -8,7 +8,7 @@
 //! the rate of the token that was taken last. The controller itself makes no client wait: it answers how long, and the
 //! client that writes waits.
 //!
-//! The controller is six words, which change together. The first five are the equations' numbers:
+//! The controller is eight words, which change together. The first five are the equations' numbers:
 //!
 //! | word | what it is |
 //! |---|---|
@@ -18,6 +18,8 @@
 //! | `credit` | bytes that may be written with no wait |
 //! | `next` | the moment of the next refill, in microseconds; 0: none is set |
 //! | `held_up` | the client that was the last one to learn, by its `delay`, that writes are held up; 0: none did |
+//! | `shown` | up to which sequence clients had been shown what is published, as they took or gave back tokens |
+//! | `tokens` | how many calls took a token or gave one back |
 //!
 //! | call | what it does |
 //! |---|---|
@@ -29,6 +31,9 @@
 //! | `look` | the counts of tokens |
 //! | `look_at_stall` | the same, and which client was the last one to learn that writes are held up |
 //! | `note`, `copies`, `learn` | carry what one pass has seen to another, and make no call |
+//! | `shown_by` | how far clients had been shown what is published as they made the token calls that a note shows |
+//! | `say` | tells those who make a token call later up to which sequence a client had been shown what is published |
+//! | `gather`, `hear` | after a token call: what was said up to it; and that the client has been shown as much |
 //! | `close` | takes all passes back |
 //!
 //! Calls of several threads follow one another in one history, and each call's answer is the one that the equations
@@ -46,6 +51,7 @@ mod numbers;
 mod opening;
 mod pass;
 mod rule;
+mod saying;
 mod tokens;
 mod words;
 

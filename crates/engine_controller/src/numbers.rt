@@ -1,9 +1,10 @@
-//! The controller's five numbers, and how each call changes them, by the equations of `model_base`. Next to them is
-//! which client was the last one to learn that writes are held up.
+//! The controller's five numbers, and how each call changes them, by the equations of `model_base`. Next to them are
+//! which client was the last one to learn that writes are held up, what clients had been shown as they took tokens or
+//! gave them back, and how many such calls there were.
 
-ghost use Rattle.std.specs.Prelude.{◌≡◌, ◌+◌, ◌<◌, ◌≤◌, ◌^◌, if◌then◌else◌};
-ghost use Rattle.model_base.specs.Controller.{numbers_after, slow, after_delay, after_debt, after_refill, after_payment, at_most_u64};
-ghost use Rattle.engine_controller.specs.Numbers.{numbers_of, action_of, wait_after, held_up_after};
+ghost use Rattle.std.specs.Prelude.{◌≡◌, ◌+◌, ◌<◌, ◌≤◌, ◌^◌, max, if◌then◌else◌};
+ghost use Rattle.model_base.specs.Controller.{numbers_after, after_slow, after_delay, after_debt, after_refill, after_payment, at_most_u64};
+ghost use Rattle.engine_controller.specs.Numbers.{numbers_of, action_of, wait_after, held_up_after, shown_after, token_weight};
 
 use crossbeam_utils::atomic::seq_cell::Words;
 
@@ -29,14 +30,19 @@ pub struct Numbers {
     /// The client that was the last one to learn, by its delay, that writes are held up. 0: none did. No other number
     /// depends on it: it is what a client learns that meets a stall.
     pub held_up: u64,
+    /// The greatest number of the calls that took a token or gave one back: the clients that made them had been shown
+    /// what is published up to no further than that. No other number depends on it.
+    pub shown: u64,
+    /// How many calls took a token or gave one back. No other number depends on it.
+    pub tokens: u64,
 }
 
-impl Words<6> for Numbers {
+impl Words<8> for Numbers {
     ghost use Rattle.engine_controller.specs.Numbers.{words_of};
 
     ghost words = { words_of };
 
-    fn to_words(self) -> [u64; 6] {
+    fn to_words(self) -> [u64; 8] {
         [
             self.stops,
             self.delays,
@@ -44,10 +50,12 @@ impl Words<6> for Numbers {
             self.credit,
             self.next,
             self.held_up,
+            self.shown,
+            self.tokens,
         ]
     }
 
-    fn from_words(bits: &[u64; 6]) -> Numbers {
+    fn from_words(bits: &[u64; 8]) -> Numbers {
         Numbers {
             stops: bits[0],
             delays: bits[1],
@@ -55,20 +63,27 @@ impl Words<6> for Numbers {
             credit: bits[3],
             next: bits[4],
             held_up: bits[5],
+            shown: bits[6],
+            tokens: bits[7],
         }
     }
 }
 
-/// A call of the controller: a token is taken or given back, a group of some bytes asks at some moment how long to
-/// wait, or the numbers are read.
+/// A call of the controller: a token is taken or given back, by a client that had been shown no more than what is
+/// published up to a sequence; a group of some bytes asks at some moment how long to wait; or the numbers are read.
 #[derive(Clone, Copy, Debug, PartialEq, Eq)]
 pub enum Action {
-    Stop,
-    Unstop,
-    Slow { rate: u64 },
-    Unslow,
+    Stop { shown: u64 },
+    Unstop { shown: u64 },
+    Slow { rate: u64, shown: u64 },
+    Unslow { shown: u64 },
     Delay { now: u64, bytes: u64 },
     Look,
+    /// What the client, or those for whose group it asks next, had been shown; and the mark that it found on the board
+    /// once it had said so there.
+    Say { shown: u64, marked: u64 },
+    /// Up to which sequence the client has seen what is published, after a token call of its own.
+    Hear { most: u64 },
 }
 
 impl Numbers {
@@ -80,45 +95,63 @@ impl Numbers {
         credit: 0,
         next: 0,
         held_up: 0,
+        shown: 0,
+        tokens: 0,
     };
 
     /// The numbers after a call of this client, and the wait that it answers, in microseconds.
     pub fn after(self, client: u64, action: Action) -> (Numbers, u64)
         requires rate { 1 ≤ self.rate }
-        requires room { (self.stops + 1 < 2 ^ 64) × (self.delays + 1 < 2 ^ 64) }
+        requires room { (self.stops + 1 < 2 ^ 64) × (self.delays + 1 < 2 ^ 64) × (self.tokens + 1 < 2 ^ 64) }
         ensures numbers { numbers_of result.0 ≡ numbers_after (numbers_of self) (action_of action) }
         ensures held_up { result.0.held_up
             ≡ held_up_after client self.held_up (numbers_of self) (action_of action) }
+        ensures shown { result.0.shown ≡ shown_after self.shown (action_of action) }
+        ensures tokens { result.0.tokens ≡ self.tokens + token_weight (action_of action) }
         ensures wait { result.1 ≡ wait_after (numbers_of self) (action_of action) }
     {
         let numbers = match action {
-            Action::Stop => Numbers {
+            Action::Stop { shown } => Numbers {
                 stops: self.stops + 1,
-                ..self
+                ..self.with_token_call(shown)
             },
-            Action::Unstop => Numbers {
+            Action::Unstop { shown } => Numbers {
                 stops: self.stops.saturating_sub(1),
-                ..self
+                ..self.with_token_call(shown)
             },
-            Action::Slow { rate } => self.after_slow(rate),
-            Action::Unslow => Numbers {
+            Action::Slow { rate, shown } => self.after_slow(rate).with_token_call(shown),
+            Action::Unslow { shown } => Numbers {
                 delays: self.delays.saturating_sub(1),
-                ..self
+                ..self.with_token_call(shown)
             },
             Action::Delay { now, bytes } => {
                 let (after, wait) = self.after_delay(now, bytes);
                 let told = self.stops > 0 || (self.delays > 0 && wait > 0);
                 return (after.with_held_up(client, told), wait);
             }
-            Action::Look => self,
+            Action::Look | Action::Say { .. } | Action::Hear { .. } => self,
         };
         (numbers, 0)
+    }
+
+    // The numbers once a call has taken a token or given one back, whose client had been shown what is published up to
+    // no further than `shown`.
+    fn with_token_call(self, shown: u64) -> Numbers
+        requires { self.tokens + 1 < 2 ^ 64 }
+        ensures { result ≡ record self { shown = max self.shown shown; tokens = self.tokens + 1 } }
+    {
+        Numbers {
+            shown: self.shown.max(shown),
+            tokens: self.tokens + 1,
+            ..self
+        }
     }
 
     // The numbers once this client has learned that writes are held up, if it has.
     fn with_held_up(self, client: u64, told: bool) -> Numbers
         ensures numbers { numbers_of result ≡ numbers_of self }
         ensures held_up { result.held_up ≡ (if told then client else self.held_up) }
+        ensures others { (result.shown ≡ self.shown) × (result.tokens ≡ self.tokens) }
     {
         if told {
             Numbers {
@@ -133,8 +166,8 @@ impl Numbers {
     // The first slow token begins with no credit and no refill set.
     fn after_slow(self, rate: u64) -> Numbers
         requires { self.delays + 1 < 2 ^ 64 }
-        ensures numbers { numbers_of result ≡ numbers_after (numbers_of self) (slow rate) }
-        ensures held_up { result.held_up ≡ self.held_up }
+        ensures numbers { numbers_of result ≡ after_slow (numbers_of self) rate }
+        ensures others { (result.held_up ≡ self.held_up) × (result.shown ≡ self.shown) × (result.tokens ≡ self.tokens) }
     {
         let fresh = if self.delays == 0 {
             Numbers {
@@ -155,7 +188,8 @@ impl Numbers {
     fn after_delay(self, now: u64, bytes: u64) -> (Numbers, u64)
         requires { 1 ≤ self.rate }
         ensures numbers { numbers_of result.0 ≡ (after_delay (numbers_of self) now bytes).numbers }
-        ensures held_up { result.0.held_up ≡ self.held_up }
+        ensures others { (result.0.held_up ≡ self.held_up) × (result.0.shown ≡ self.shown)
+            × (result.0.tokens ≡ self.tokens) }
         ensures wait { result.1 ≡ (after_delay (numbers_of self) now bytes).wait }
     {
         if self.stops > 0 || self.delays == 0 {
@@ -181,7 +215,7 @@ impl Numbers {
         requires { self.next ≤ now }
         ensures numbers { numbers_of result ≡ after_refill (numbers_of self) now }
         ensures rate { result.rate ≡ self.rate }
-        ensures held_up { result.held_up ≡ self.held_up }
+        ensures others { (result.held_up ≡ self.held_up) × (result.shown ≡ self.shown) × (result.tokens ≡ self.tokens) }
     {
         let elapsed = (now - self.next).saturating_add(MILLISECOND);
         let allowed = (u128::from(elapsed) * u128::from(self.rate)).div_ceil(u128::from(SECOND));
@@ -195,7 +229,8 @@ impl Numbers {
     fn after_payment(self, now: u64, bytes: u64) -> (Numbers, u64)
         requires { 1 ≤ self.rate }
         ensures numbers { numbers_of result.0 ≡ (after_payment (numbers_of self) now bytes).numbers }
-        ensures held_up { result.0.held_up ≡ self.held_up }
+        ensures others { (result.0.held_up ≡ self.held_up) × (result.0.shown ≡ self.shown)
+            × (result.0.tokens ≡ self.tokens) }
         ensures wait { result.1 ≡ (after_payment (numbers_of self) now bytes).wait }
     {
         if bytes > self.credit {
@@ -212,7 +247,8 @@ impl Numbers {
     fn after_debt(self, now: u64, bytes: u64) -> (Numbers, u64)
         requires { 1 ≤ self.rate }
         ensures numbers { numbers_of result.0 ≡ (after_debt (numbers_of self) now bytes).numbers }
-        ensures held_up { result.0.held_up ≡ self.held_up }
+        ensures others { (result.0.held_up ≡ self.held_up) × (result.0.shown ≡ self.shown)
+            × (result.0.tokens ≡ self.tokens) }
         ensures wait { result.1 ≡ (after_debt (numbers_of self) now bytes).wait }
     {
         let owed = u128::from(bytes.saturating_sub(self.credit));

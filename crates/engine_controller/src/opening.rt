@@ -10,6 +10,7 @@ use crate::pass::{Others, Pass, Passes};
 use crate::rule::{Cell, Closing, Moved, NextClient};
 use crate::words::{join, load, split};
 use base_devices::Clock;
+use engine_board::Board;
 use model_base::{MAX_CLIENTS, NoMemory};
 use std::alloc::Global;
 use std::marker::PhantomData;
@@ -23,6 +24,7 @@ impl<Time: Clock> Controller<Time> {
     {
         let mut passes = Vec::with_capacity(alloc, clients as usize)?;
         let (cell, mut rest) = Cell::ruled(alloc, Numbers::OPENING)?;
+        let (board, mut first) = Board::open(alloc)?;
         // Each client so far has a pass, and the seat of the others covers the clients that come next.
         for known in 0..clients {
             let seat = split::<NextClient>(&cell, &mut rest);
@@ -31,16 +33,24 @@ impl<Time: Clock> Controller<Time> {
                 number: known + 1,
                 stopping: false,
                 slowing: false,
+                shown: 0,
+                board: board.client(&mut first),
+                said: 0,
+                tokens: 0,
             })?;
         }
         let controller = Controller {
             cell,
+            board,
             clients,
             clock: PhantomData,
         };
         let passes = Passes {
             clients: passes,
-            others: Others { seat: rest },
+            others: Others {
+                seat: rest,
+                board: first,
+            },
         };
         Ok((controller, passes))
     }
@@ -55,17 +65,24 @@ impl<Time: Clock> Controller<Time> {
     {
         let Controller {
             cell,
+            board,
             clients: _,
             clock: _,
         } = self;
         let Passes { clients, others } = passes;
-        let mut rest = others.seat;
-        // The passes so far are joined into the seat of the others.
+        let Others {
+            seat: mut rest,
+            board: mut first,
+        } = others;
+        // The passes so far are joined into the seat of the others, and what their clients know of the board into that
+        // of the board's first client.
         for mut pass in clients {
             let seat = split::<Moved>(&cell, &mut pass.seat);
             join(&cell, &mut rest, seat);
+            board.join(&mut first, pass.board);
         }
         // Only a step shows the history. A load is enough for that, with this seat alone.
         load::<Closing, R>(&cell, rt, &mut rest);
+        board.close(first);
     }
 }

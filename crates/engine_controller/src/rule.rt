@@ -1,4 +1,4 @@
-//! The rule of the six words: what they are, and what each pass knows of the calls so far.
+//! The rule of the eight words: what they are, and what each pass knows of the calls so far.
 //!
 //! The history of calls exists only in the proofs. No value is made of the structs and enums here.
 
@@ -34,8 +34,9 @@ pub struct Observer {
 /// What a pass knows: one observer; several while it takes in another pass, and at closing.
 pub type ControllerView = LinkedList<Observer>;
 
-/// The rule: the words are the numbers after one history of calls, and the client that was the last one in it to learn
-/// that writes are held up.
+/// The rule: the words are the numbers after one history of calls, the client that was the last one in it to learn that
+/// writes are held up, the greatest number of its calls that took a token or gave one back, and how many of those there
+/// were.
 pub struct OneHistory;
 
 impl Protocol<Numbers, ControllerView> for OneHistory {
@@ -46,10 +47,10 @@ impl Protocol<Numbers, ControllerView> for OneHistory {
     ghost first = { others 0 };
 }
 
-/// The six words.
-pub type Cell = RuledSeqCell<Numbers, ControllerView, OneHistory, 6>;
+/// The eight words.
+pub type Cell = RuledSeqCell<Numbers, ControllerView, OneHistory, 8>;
 
-/// A view of the six words.
+/// A view of the eight words.
 pub type Seat = Pass<Numbers, ControllerView>;
 
 /// A load that shows the history so far, and isn't a call.
@@ -96,7 +97,16 @@ impl Asking for Brand {
 
     ghost call = { Look };
 
-    ghost found = { record { stops = 0; delays = 0; rate = 1; credit = 0; next = 0; held_up = 0 } };
+    ghost found = { record {
+      stops = 0;
+      delays = 0;
+      rate = 1;
+      credit = 0;
+      next = 0;
+      held_up = 0;
+      shown = 0;
+      tokens = 0;
+    } };
 }
 
 /// An exchange that asks for this call. Its outcome knows the call, so one step is enough for a call: it shows that
@@ -121,6 +131,29 @@ impl<Picked: Asking> Outcome<Numbers, ControllerView> for Unslowed<Picked> {
     ghost use Rattle.engine_controller.specs.Rule.{Asks};
 
     ghost then = { λ v x _ w. Asks Picked.call v x w };
+}
+
+/// A load that is itself a call, which says something, where the controller counts as many token calls as the mark that
+/// the client found. The outcome knows the call.
+pub struct Saying<Picked: Asking> {
+    asking: PhantomData<Picked>,
+}
+
+impl<Picked: Asking> Outcome<Numbers, ControllerView> for Saying<Picked> {
+    ghost use Rattle.engine_controller.specs.Rule.{Says};
+
+    ghost then = { λ v x _ w. Says Picked.call v x w };
+}
+
+/// A load that is itself a call: what a client hears.
+pub struct Hearing<Picked: Asking> {
+    asking: PhantomData<Picked>,
+}
+
+impl<Picked: Asking> Outcome<Numbers, ControllerView> for Hearing<Picked> {
+    ghost use Rattle.engine_controller.specs.Rule.{Makes};
+
+    ghost then = { λ v x _ w. Makes Picked.call v x w };
 }
 
 /// Cuts off the pass of the next client.

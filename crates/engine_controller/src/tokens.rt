@@ -1,4 +1,5 @@
-//! The calls that take a token or give one back. A client asks its own pass whether it holds one.
+//! The calls that take a token or give one back. A client asks its own pass whether it holds one. Each call says up to
+//! which sequence its client had been shown what is published: the controller only keeps the greatest of these numbers.
 
 ghost use Rattle.std.specs.Prelude.{◌≡◌, ◌++◌, true, false, List, None, OnOk, OnErr};
 ghost use Rattle.model_base.specs.Controller.{ControllerCall, stop, unstop, slow, unslow};
@@ -23,11 +24,11 @@ impl<Time: Clock> Controller<Time> {
 
     /// Takes the client's stop token. While any client holds one, writes are stopped. Where the client already holds
     /// one, no call is made.
-    pub fn stop<R: Wait>(&self, rt: &R, pass: &mut Pass) -> Result<(), Held>
+    pub fn stop<R: Wait>(&self, rt: &R, pass: &mut Pass, shown: u64) -> Result<(), Held>
         requires own { IsPassOf self.now pass.old }
         ensures own { IsPassOf self.now pass.new × (client_of pass.new ≡ client_of pass.old) }
         ensures done { OnOk result ((holds_stop (asked_by pass.old) ≡ false)
-            × EndsWith (client_of pass.old) (seen_by pass.old) stop None (seen_by pass.new)) }
+            × EndsWith (client_of pass.old) (seen_by pass.old) (stop shown) None (seen_by pass.new)) }
         // A token is refused exactly where the client itself holds one, and then nothing is called.
         ensures held { OnErr result ((holds_stop (asked_by pass.old) ≡ true)
             × (seen_by pass.new ≡ seen_by pass.old)) }
@@ -35,17 +36,19 @@ impl<Time: Clock> Controller<Time> {
         if pass.stopping {
             return Err(Held);
         }
-        self.call(rt, &mut pass.seat, pass.number, Action::Stop);
+        let (_, new) = self.call(rt, &mut pass.seat, pass.number, Action::Stop { shown });
+        pass.shown = new.shown;
+        pass.tokens = new.tokens;
         pass.stopping = true;
         Ok(())
     }
 
     /// Gives the client's stop token back. Where it holds none, no call is made.
-    pub fn unstop<R: Wait>(&self, rt: &R, pass: &mut Pass) -> Result<(), NotHeld>
+    pub fn unstop<R: Wait>(&self, rt: &R, pass: &mut Pass, shown: u64) -> Result<(), NotHeld>
         requires own { IsPassOf self.now pass.old }
         ensures own { IsPassOf self.now pass.new × (client_of pass.new ≡ client_of pass.old) }
         ensures done { OnOk result ((holds_stop (asked_by pass.old) ≡ true)
-            × EndsWith (client_of pass.old) (seen_by pass.old) unstop None (seen_by pass.new)) }
+            × EndsWith (client_of pass.old) (seen_by pass.old) (unstop shown) None (seen_by pass.new)) }
         // Giving back is refused exactly where the client holds none.
         ensures not_held { OnErr result ((holds_stop (asked_by pass.old) ≡ false)
             × (seen_by pass.new ≡ seen_by pass.old)) }
@@ -53,57 +56,69 @@ impl<Time: Clock> Controller<Time> {
         if !pass.stopping {
             return Err(NotHeld);
         }
-        self.call(rt, &mut pass.seat, pass.number, Action::Unstop);
+        let (_, new) = self.call(rt, &mut pass.seat, pass.number, Action::Unstop { shown });
+        pass.shown = new.shown;
+        pass.tokens = new.tokens;
         pass.stopping = false;
         Ok(())
     }
 
     /// Takes the client's slow token, with a rate in bytes a second. A rate of 0 counts as 1. Where the client already
     /// holds one, no call is made.
-    pub fn slow<R: Wait>(&self, rt: &R, pass: &mut Pass, rate: u64) -> Result<(), Held>
+    pub fn slow<R: Wait>(&self, rt: &R, pass: &mut Pass, rate: u64, shown: u64) -> Result<(), Held>
         requires own { IsPassOf self.now pass.old }
         ensures own { IsPassOf self.now pass.new × (client_of pass.new ≡ client_of pass.old) }
         ensures done { OnOk result ((holds_slow (asked_by pass.old) ≡ false)
-            × EndsWith (client_of pass.old) (seen_by pass.old) (slow rate) None (seen_by pass.new)) }
+            × EndsWith (client_of pass.old) (seen_by pass.old) (slow rate shown) None (seen_by pass.new)) }
         ensures held { OnErr result ((holds_slow (asked_by pass.old) ≡ true)
             × (seen_by pass.new ≡ seen_by pass.old)) }
     {
         if pass.slowing {
             return Err(Held);
         }
-        self.call(rt, &mut pass.seat, pass.number, Action::Slow { rate });
+        let (_, new) = self.call(
+            rt,
+            &mut pass.seat,
+            pass.number,
+            Action::Slow { rate, shown },
+        );
+        pass.shown = new.shown;
+        pass.tokens = new.tokens;
         pass.slowing = true;
         Ok(())
     }
 
     /// Gives the client's slow token back. The rate, the credit and the next refill stay as they are. Where the client
     /// holds none, no call is made.
-    pub fn unslow<R: Wait>(&self, rt: &R, pass: &mut Pass) -> Result<(), NotHeld>
+    pub fn unslow<R: Wait>(&self, rt: &R, pass: &mut Pass, shown: u64) -> Result<(), NotHeld>
         requires own { IsPassOf self.now pass.old }
         ensures own { IsPassOf self.now pass.new × (client_of pass.new ≡ client_of pass.old) }
         ensures done { OnOk result ((holds_slow (asked_by pass.old) ≡ true)
-            × EndsWith (client_of pass.old) (seen_by pass.old) unslow None (seen_by pass.new)) }
+            × EndsWith (client_of pass.old) (seen_by pass.old) (unslow shown) None (seen_by pass.new)) }
         ensures not_held { OnErr result ((holds_slow (asked_by pass.old) ≡ false)
             × (seen_by pass.new ≡ seen_by pass.old)) }
     {
         if !pass.slowing {
             return Err(NotHeld);
         }
-        self.call(rt, &mut pass.seat, pass.number, Action::Unslow);
+        let (_, new) = self.call(rt, &mut pass.seat, pass.number, Action::Unslow { shown });
+        pass.shown = new.shown;
+        pass.tokens = new.tokens;
         pass.slowing = false;
         Ok(())
     }
 
     /// Gives back the tokens that the client holds, the stop token first, and makes no other call.
-    pub fn end<R: Wait>(&self, rt: &R, pass: &mut Pass)
+    pub fn end<R: Wait>(&self, rt: &R, pass: &mut Pass, shown: u64)
         requires own { IsPassOf self.now pass.old }
         ensures own { IsPassOf self.now pass.new × (client_of pass.new ≡ client_of pass.old) }
-        ensures tokens { asked_by pass.new ≡ asked_by pass.old ++ given_back (asked_by pass.old) }
+        ensures tokens { asked_by pass.new ≡ asked_by pass.old ++ given_back (asked_by pass.old) shown }
         ensures calls { (middle : List ControllerCall)
-            × GivesBack (holds_stop (asked_by pass.old)) (client_of pass.old) (seen_by pass.old) unstop middle
-            × GivesBack (holds_slow (asked_by pass.old)) (client_of pass.old) middle unslow (seen_by pass.new) }
+            × GivesBack (holds_stop (asked_by pass.old)) (client_of pass.old) (seen_by pass.old) (unstop shown) middle
+            × GivesBack (holds_slow (asked_by pass.old)) (client_of pass.old) middle (unslow shown)
+            (seen_by pass.new) }
     {
-        let _ = self.unstop(rt, pass);
-        let _ = self.unslow(rt, pass);
+        let _ = self.unstop(rt, pass, shown);
+        let _ = self.unslow(rt, pass, shown);
     }
 }

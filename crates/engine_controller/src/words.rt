@@ -1,13 +1,14 @@
-//! What is done with the six words and the passes, as far as it doesn't depend on the type of the clock: each
+//! What is done with the eight words and the passes, as far as it doesn't depend on the type of the clock: each
 //! function is one step of the cell under its rule.
 
-ghost use Rattle.std.specs.Prelude.{◌≡◌, ◌≢◌, ◌++◌, [], Bool, true, if◌then◌else◌, IfOk, IfErr};
+ghost use Rattle.std.specs.Prelude.{◌≡◌, ◌≢◌, ◌+◌, ◌++◌, [], Bool, true, if◌then◌else◌, IfOk, IfErr};
 ghost use Rattle.crossbeam_utils.specs.Register.{Turns, Forks};
 ghost use Rattle.crossbeam_utils.specs.Seq.{cell_view};
 ghost use Rattle.model_base.specs.Controller.{numbers_after};
 ghost use Rattle.engine_controller.specs.declared.numbers.Numbers.{Numbers};
-ghost use Rattle.engine_controller.specs.Numbers.{numbers_of, action_of, held_up_after};
-ghost use Rattle.engine_controller.specs.Rule.{Kept, Makes, Sees, MayCall, IsClientView, client_in, seen_in, asked_in};
+ghost use Rattle.engine_controller.specs.Numbers.{numbers_of, action_of, held_up_after, shown_after, token_weight};
+ghost use Rattle.engine_controller.specs.Rule.{Kept, Makes, Sees, MayCall, IsClientView};
+ghost use Rattle.engine_controller.specs.Rule.{client_in, seen_in, asked_in, marked_of};
 
 use crate::numbers::{Action, Numbers};
 use crate::rule::{Asking, Cell, ControllerView, Exchange, Moved, Seat};
@@ -45,6 +46,9 @@ pub fn exchange<Picked: Asking, R: Wait>(
     requires new { numbers_of new ≡ numbers_after (numbers_of found) (action_of action) }
     requires held_up { new.held_up ≡ held_up_after (client_in (cell_view seat.old)) found.held_up
         (numbers_of found) (action_of action) }
+    requires shown { new.shown ≡ shown_after found.shown (action_of action) }
+    requires tokens { new.tokens ≡ found.tokens + token_weight (action_of action) }
+    requires unsaid { marked_of action ≡ 0 }
     ensures cell { seat.new.table_id ≡ seat.old.table_id }
     ensures ok { IfOk result (λ _. Makes action (cell_view seat.old) found (cell_view seat.new)) }
     ensures err { IfErr result (λ x. Sees (cell_view seat.old) x x (cell_view seat.new)) }

@@ -1,8 +1,9 @@
 -- What a client concludes from its answer.
-use Rattle.std.proofs.Common.{◌≡◌, inr, ℕ, ◌+◌, ◌-◌, ◌<◌, ◌≤◌, Bool, true, false, not, cond, ◌==◌, ◌&&◌, List, [], ◌∷◌, ◌++◌, Option, Some, None, MatchOption, IfSome, Result, Ok, Err, IfOk, IfErr, length, refl, ap, sym, ◌∙◌, subst, arith, append_assoc, append-nil, length-append}
+use Rattle.std.proofs.Common.{◌≡◌, inr, ℕ, ◌+◌, ◌-◌, ◌<◌, ◌≤◌, Bool, true, false, not, cond, ◌==◌, ◌&&◌, List, [], ◌∷◌, ◌++◌, Option, Some, None, MatchOption, IfSome, Result, Ok, Err, IfOk, IfErr, length, take, refl, ap, sym, ◌∙◌, subst, arith, append_assoc, append-nil, length-append}
 use Rattle.std.specs.Prelude.{if◌then◌else◌, nat_lt}
 use Rattle.std.specs.List.{AllByRecursion}
 use Rattle.std.proofs.lemmas.Option.{slice_get_within}
+use Rattle.std.proofs.Math.Seq.{take-length}
 use mathlib.Core.List.{IsPrefix}
 use Rattle.log_writer.specs.declared.group_log.GroupLog.{Ghosts}
 use Rattle.model_base.specs.declared.write.Refusal.{Refusal}
@@ -16,9 +17,10 @@ use Rattle.model_base.specs.Batch.{Record, count_of, size_of_batch}
 use Rattle.model_base.specs.Controller.{ControllerCall, Look, delay, look}
 use Rattle.model_base.specs.LogContents.{GroupCall, IsLoggedBy}
 use Rattle.model_base.specs.Replies.{IsLater, IsWithinCall, MetStall}
-use Rattle.model_base.specs.Tokens.{tokens_of, holds_stop}
-use Rattle.model_base.proofs.Prefixes.{prefix_length, prefix_self, prefix_trans}
+use Rattle.model_base.specs.Tokens.{tokens_of, holds_stop, said_in, shown_by_tokens}
+use Rattle.model_base.proofs.Prefixes.{prefix_length, prefix_self, prefix_take, prefix_trans}
 use Rattle.model_base.proofs.Runs.{later_in, logged_in}
+use Rattle.model_base.proofs.Shown.{shown_in_prefix}
 use Rattle.engine_parts.specs.declared.log.OpenLog.{OpenLog}
 use Rattle.engine_parts.specs.Logs.{Wrote as LogWrote}
 use Rattle.log_batch.specs.Contents.{Contents}
@@ -122,7 +124,7 @@ pub record Concludes {D : Type 0} {ghosts : Ghosts D} (opened : OpenLog D ghosts
 
 module _ {C D : Type 0} {ghosts : Ghosts D} (controller : Controller C) (opened : OpenLog D ghosts) (start : ℕ) (opening : Pairs) (k : ℕ) (settings : Settings) (q : Request) (p : Answer) (mine : List (Request × Answer)) (handled : List (Handling Request Answer)) (kept : AreHandled controller opened start handled) (own : of k handled ≡ mine ++ (q, p) ∷ []) (seen now : List (List MemberVersions)) (sees : Begins seen now)
     (known after : List ControllerCall) (more : SeesMore k known after) (noted_known : IsPrefix known (noted_in q.note)) (sees_note : IfSome p.note (λ (n : Noted). IsPrefix (seen_by_note n) after))
-    (passed : early_refusal settings.families settings.batch_bytes (holds_stop (tokens_of k known)) q.batch.records q.options ≡ None) (free : holds_stop (tokens_of k known) ≡ false) (above : IsAbove (last_of start seen) p.answer) (writes : q.since ≡ None) where
+    (passed : early_refusal settings.families settings.batch_bytes (holds_stop (tokens_of k known)) q.batch.records q.options ≡ None) (free : holds_stop (tokens_of k known) ≡ false) (above : IsAbove (last_of start seen) p.answer) (unseen : IfSome p.note (λ (n : Noted). IsAbove (shown_by_tokens (seen_by_note n)) p.answer)) (had : last_of start seen ≤ q.shown) (writes : q.since ≡ None) where
   is : commits_of k (commits_in handled) ≡ own_commits k mine ++ commit k q p ∷ []
   is = commits_told k handled ∙ (ap (own_commits k) own ∙ own_more k mine q p writes)
 
@@ -169,10 +171,29 @@ module _ {C D : Type 0} {ghosts : Ghosts D} (controller : Controller C) (opened 
   batch_shown : (first end : ℕ) → answer_in p.answer ≡ accepted first end → ShowsBatch (commit k q p) first (sight k q p)
   batch_shown first end is to_log = λ i. written_if (to_log i) (has_run (is i)) (record { first = first_of (is i); records = q.batch.records; sync = q.options.sync })
 
+  -- nobody who took a token or gave one back before its leader decided had been shown the batch
+  never_shown : (r : Receipt) → p.answer ≡ Ok r → shown_by_tokens (take (decided_of (commit k q p)) after) < r.run.first
+  never_shown r ok =
+      let n = shows.1.noted writes in
+      let note_above : IsAbove (shown_by_tokens (seen_by_note n.0)) p.answer = some_holds (λ (m : Noted). IsAbove (shown_by_tokens (seen_by_note m)) p.answer) p.note n.0 n.1 unseen in
+      let run_above : shown_by_tokens (seen_by_note n.0) < r.run.first = subst (IsAbove (shown_by_tokens (seen_by_note n.0))) ok note_above in
+      let less = shown_in_prefix (went_for p) (seen_by_note n.0) n.3 in
+      let same : take (length (went_for p)) after ≡ went_for p = prefix_take (went_for p) after all_heard (length (went_for p)) (omega arith) ∙ take-length (went_for p) in
+      subst (λ (l : List ControllerCall). shown_by_tokens l < r.run.first) (sym same) (omega (arith, less, run_above))
+
+  -- by the delay of its group, calls had said all that the client had seen published
+  said_by_then : last_of start seen ≤ said_in (take (place_of (commit k q p) + 1) after)
+  said_by_then =
+      let d = shows.1.delayed writes in let said = shows.1.said writes in
+      let there = slice_get_within (seen_for p) (length (seen_for p) - 1) (record { client = d.1.by; action = delay d.1.now d.1.bytes; told = Some d.0 }) d.1.is_later.there in
+      let whole : length (seen_for p) - 1 + 1 ≡ length (seen_for p) = omega (arith, there) in
+      let same : take (length (seen_for p) - 1 + 1) after ≡ seen_for p = ap (λ (n : ℕ). take n after) whole ∙ (prefix_take (seen_for p) after front (length (seen_for p)) (omega arith) ∙ take-length (seen_for p)) in
+      subst (λ (l : List ControllerCall). last_of start seen ≤ said_in l) (sym same) (omega (arith, had, said))
+
   pub answered_ok : (r : Receipt) → p.answer ≡ Ok r → r.group_last ≤ last_of start now → Wrote settings old q.batch.records q.options r.run.first r.group_last new
   answered_ok r ok reached = subst (Wrote settings old q.batch.records q.options r.run.first r.group_last) new_is
       (wrote start opening k (own_commits k mine) (own_sights k mine) (own_answers mine) (commit k q p) (sight k q p) seen now sees known after more free within in_order.0 (commits_in handled) kept.answered is settings r.run.first r.group_last (ap answer_in ok) passed (subst (IsAbove (last_of start seen)) ok above) reached
-      (batch_shown r.run.first r.group_last (ap answer_in ok)))
+      (batch_shown r.run.first r.group_last (ap answer_in ok)) (never_shown r ok) said_by_then)
 
   refused_by : (why : Refusal) (e : Refused) → e.why ≡ why → p.answer ≡ Err e → IsLate why → IsRefused old q.batch.records q.options why new
   refused_by (LogFault n) e is_why err late = subst (IsRefused old q.batch.records q.options (LogFault n)) new_is
@@ -245,10 +266,10 @@ pub begins_on : {A : Type 0} (xs ys zs : List A) → Begins xs ys → Begins ys 
 begins_on xs ys zs a b = (a.0 ++ b.0, b.1 ∙ (ap (λ l. l ++ b.0) a.1 ∙ append_assoc xs a.0 b.0))
 
 -- a client that has seen no less of what is published has seen it up to no lower sequence
-last_later : (start : ℕ) (xs ys : List (List MemberVersions)) → Begins xs ys → last_of start xs ≤ last_of start ys
+pub last_later : (start : ℕ) (xs ys : List (List MemberVersions)) → Begins xs ys → last_of start xs ≤ last_of start ys
 last_later start xs ys b = let e = ap (λ l. length (versions_of l)) b.1 ∙ (ap length (versions_append xs b.0) ∙ length-append (versions_of xs) (versions_of b.0)) in omega (arith, e)
 
-above_all : (m n : ℕ) (answer : Result Receipt Refused) → m ≤ n → IsAbove n answer → IsAbove m answer
+pub above_all : (m n : ℕ) (answer : Result Receipt Refused) → m ≤ n → IsAbove n answer → IsAbove m answer
 above_all m n (Ok r) low above = let a : n < r.run.first = above in omega (arith, low, a)
 above_all m n (Err e) low above = λ last is. let a : n ≤ last = above last is in omega (arith, low, a)
 
@@ -256,3 +277,9 @@ above_all m n (Err e) low above = λ last is. let a : n ≤ last = above last is
 pub above_seen : (start start' shown : ℕ) (before loaded : List (List MemberVersions)) (answer : Result Receipt Refused) → start ≡ start' → Begins before loaded → shown ≡ last_of start' loaded → IsAbove shown answer → IsAbove (last_of start before) answer
 above_seen start start' shown before loaded answer same more is above =
     above_all (last_of start before) shown answer (let l = last_later start before loaded more in let e = ap (λ (n : ℕ). last_of n loaded) same in omega (arith, l, e, is)) above
+
+-- an answer that is above a number which a note gives, and above others, is above what the note shows
+pub above_note : (note : Option Noted) (said most : ℕ) (answer : Result Receipt Refused) → IfSome note (λ (n : Noted). said ≡ shown_by_tokens (seen_by_note n)) → said ≤ most → IsAbove most answer
+    → IfSome note (λ (n : Noted). IsAbove (shown_by_tokens (seen_by_note n)) answer)
+above_note None said most answer is low above = tt
+above_note (Some n) said most answer is low above = above_all (shown_by_tokens (seen_by_note n)) most answer (omega (arith, is, low)) above

@@ -1,5 +1,5 @@
 -- A client whose seat or pass has seen more, and its account then.
-use Rattle.std.proofs.Common.{◌≡◌, ℕ, ◌-◌, Bool, true, false, List, [], ◌∷◌, ◌++◌, Option, None, Result, Ok, Err, IfOk, OnOk, OnErr, length, arith, refl, ap, sym, ◌∙◌, subst, append-nil}
+use Rattle.std.proofs.Common.{◌≡◌, ℕ, ◌-◌, ◌≤◌, Bool, true, false, List, [], ◌++◌, Option, None, Result, Ok, Err, IfOk, length, arith, refl, ap, sym, ◌∙◌, subst, append-nil}
 use Rattle.std.specs.List.{AllByRecursion}
 use mathlib.Core.List.{IsPrefix}
 use Rattle.log_writer.specs.declared.group_log.GroupLog.{Ghosts}
@@ -11,14 +11,14 @@ use Rattle.model_base.specs.Tokens.{tokens_of, given_back}
 use Rattle.model_base.proofs.Prefixes.{prefix_self, prefix_trans}
 use Rattle.table_rule.specs.Histories.{Begins, In, last_of, map_after}
 use Rattle.table_calls.specs.Account.{Learns}
-use Rattle.model_accounts.specs.Accounts.{Keeps, Asks, GivesBack, Reads as ReadsAtEnd}
+use Rattle.model_accounts.specs.Accounts.{Keeps, GivesBack, Reads as ReadsAtEnd}
 use Rattle.model_accounts.proofs.Seeing.{seen_of_all}
 use Rattle.engine_controller.specs.declared.pass.Pass.{Pass}
 use Rattle.engine_controller.specs.Delays.{delays_of, place_if}
 use Rattle.engine_controller.specs.Passes.{IsPassOf, EndsWith, GoesOn, GivesBack as GivesBackIn, asked_by, seen_by, token_in, client_of as pass_client}
 use Rattle.engine_controller.specs.Rule.{seen_in}
 use Rattle.engine_controller.proofs.Histories.{legal_from}
-use Rattle.engine_controller.proofs.Account.{ends_begins, ends_tokens, ends_last, goes_begins, goes_tokens}
+use Rattle.engine_controller.proofs.Account.{ends_begins, ends_tokens, goes_begins, goes_tokens}
 use Rattle.engine_controller.proofs.Places.{ends_delays, goes_delays}
 use Rattle.engine_rule.specs.Asked.{place_of}
 use Rattle.engine_rule.specs.Commits.{Commit}
@@ -28,16 +28,8 @@ use Rattle.engine_groups.specs.Meaning.{Meaning}
 use Rattle.engine_groups.specs.declared.engine.GroupEngine.{GroupEngine}
 use Rattle.engine_groups.specs.declared.engine.EngineClient.{EngineClient}
 use Rattle.engine_groups.specs.Clients.{IsClientOf, IsIdle, map_at_opening, account_in, own_answers, own_commits, told_of}
-use Rattle.engine_groups.proofs.Answered.{begins_self}
+use Rattle.engine_groups.proofs.Answered.{begins_self, last_later}
 use Rattle.engine_groups.proofs.AtEnds.{ends_on}
-
-pub on_ok : {A B : Type 0} {P Q : Type 0} (r : Result A B) → (P → Q) → OnOk r P → OnOk r Q
-on_ok (Ok x) f p = f p
-on_ok (Err e) f p = tt
-
-pub on_err : {A B : Type 0} {P Q : Type 0} (r : Result A B) → (P → Q) → OnErr r P → OnErr r Q
-on_err (Ok x) f p = tt
-on_err (Err e) f p = f p
 
 -- a client that gives back its tokens has seen no less after that, and asked for no delay
 back_begins : (b : Bool) (client : ℕ) (seen : List ControllerCall) (action : Action) (after : List ControllerCall) → GivesBackIn b client seen action after → IsPrefix seen after
@@ -146,7 +138,15 @@ module _ {D T C G S U P : Type 0} {ghosts : Ghosts D} (meaning : Meaning T S U P
   pub same_tokens : asked_by c.pass ≡ tokens_of c.number (seen_by c.pass)
   same_tokens = ap (λ (k : ℕ). tokens_of k (seen_by c.pass)) fits.idle.seated.pass_number
 
-  -- it saw nothing new and asked for nothing
+  -- what its seat found is no less than what the client had seen before
+  pub seen_before : (seat : S) (shown : ℕ) → Begins (meaning.account c.seat).seen (meaning.account seat).seen → shown ≡ last_of (meaning.opening e.table).start (meaning.account seat).seen
+      → last_of c.start (meaning.account c.seat).seen ≤ shown
+  seen_before seat shown more is =
+      let later = last_later (meaning.opening e.table).start (meaning.account c.seat).seen (meaning.account seat).seen more in
+      let same = ap (λ (n : ℕ). last_of n (meaning.account c.seat).seen) fits.idle.seated.start in
+      omega (arith, later, same, is)
+
+  -- it saw nothing new of the controller and asked for nothing
   pub pass_keeps : (pass : Pass) → seen_by pass ≡ seen_by c.pass → Keeps (account_in meaning c) (account_in meaning (record c { pass = pass }))
   pass_keeps pass same = record {
     number = refl;
@@ -160,69 +160,56 @@ module _ {D T C G S U P : Type 0} {ghosts : Ghosts D} (meaning : Meaning T S U P
   }
 
   -- it made a call that isn't a delay
-  pub no_delays : (pass : Pass) (action : Action) (told : Option Look) → EndsWith (pass_client c.pass) (seen_by c.pass) action told (seen_by pass) → is_delay action ≡ false → delays_of c.number (seen_by pass) ≡ delays_of c.number (seen_by c.pass)
+  no_delays : (pass : Pass) (action : Action) (told : Option Look) → EndsWith (pass_client c.pass) (seen_by c.pass) action told (seen_by pass) → is_delay action ≡ false → delays_of c.number (seen_by pass) ≡ delays_of c.number (seen_by c.pass)
   no_delays pass action told ends still =
       let own = subst (λ (k : ℕ). EndsWith k (seen_by c.pass) action told (seen_by pass)) fits.idle.seated.pass_number ends in
       ends_delays c.number (seen_by c.pass) action told (seen_by pass) own ∙ (ap (λ (b : Bool). delays_of c.number (seen_by c.pass) ++ place_if b (length (seen_by pass) - 1)) still ∙ append-nil (delays_of c.number (seen_by c.pass)))
 
-  -- it took a token or gave one back
-  module _ (pass : Pass) (action : Action) (ends : EndsWith (pass_client c.pass) (seen_by c.pass) action None (seen_by pass)) where
-    ends_own : EndsWith c.number (seen_by c.pass) action None (seen_by pass)
-    ends_own = subst (λ (k : ℕ). EndsWith k (seen_by c.pass) action None (seen_by pass)) fits.idle.seated.pass_number ends
+  -- it made such a call, and is a client of the engine still
+  pub call_moved : (pass : Pass) (action : Action) (told : Option Look) → IsPassOf e.controller pass → pass_client pass ≡ pass_client c.pass → EndsWith (pass_client c.pass) (seen_by c.pass) action told (seen_by pass) → is_delay action ≡ false
+      → IsClientOf meaning e (record c { pass = pass })
+  call_moved pass action told own same ends still = pass_moved pass own same (no_delays pass action told ends still)
 
-    pub pass_asks : token_in action ≡ action ∷ [] → Asks (account_in meaning c) action (account_in meaning (record c { pass = pass }))
-    pass_asks is =
-        let last = ends_last c.number (seen_by c.pass) action None (seen_by pass) ends_own in record {
-          number = refl;
-          mine = refl;
-          ends = refl;
-          asked = ends_tokens c.number (seen_by c.pass) action None (seen_by pass) ends_own ∙ ap (λ (l : List Action). tokens_of c.number (seen_by c.pass) ++ l) is;
-          attempts = refl;
-          read_faults = refl;
-          seen = record { start = refl; opening = refl; published = begins_self (meaning.account c.seat).seen; controller_calls = ends_begins c.number (seen_by c.pass) action None (seen_by pass) ends_own; log_reads = prefix_self _; logged = omega arith; batches = prefix_self _ };
-          tokens = refl;
-          place = last.place;
-          is_later = last.is_later;
-        }
-
-    -- and what it says of the tokens that the client held before
-    pub asks_if : (holds : List Action → Bool) (b : Bool) → token_in action ≡ action ∷ [] → holds (asked_by c.pass) ≡ b
-        → (holds (account_in meaning c).asked ≡ b) × Asks (account_in meaning c) action (account_in meaning (record c { pass = pass }))
-    asks_if holds b is held = (ap holds (sym same_tokens) ∙ held, pass_asks is)
-
-  pub keeps_if : (pass : Pass) (holds : List Action → Bool) (b : Bool) → holds (asked_by c.pass) ≡ b → seen_by pass ≡ seen_by c.pass
-      → (holds (account_in meaning c).asked ≡ b) × Keeps (account_in meaning c) (account_in meaning (record c { pass = pass }))
-  keeps_if pass holds b held same = (ap holds (sym same_tokens) ∙ held, pass_keeps pass same)
-
-  -- a call was done, or refused
-  pub token_delays : {A B : Type 0} (P Q : Type 0) (r : Result A B) (pass : Pass) (action : Action) → is_delay action ≡ false
-      → OnOk r (P × EndsWith (pass_client c.pass) (seen_by c.pass) action None (seen_by pass)) → OnErr r (Q × (seen_by pass ≡ seen_by c.pass))
-      → delays_of c.number (seen_by pass) ≡ delays_of c.number (seen_by c.pass)
-  token_delays P Q (Ok x) pass action still done held = no_delays pass action None done.1 still
-  token_delays P Q (Err x) pass action still done held = ap (delays_of c.number) held.1
+  -- the call took no token and gave none back, and its seat has seen more
+  pub call_keeps : (seat : S) → Begins (meaning.account c.seat).seen (meaning.account seat).seen → (pass : Pass) (action : Action) (told : Option Look) → EndsWith (pass_client c.pass) (seen_by c.pass) action told (seen_by pass) → token_in action ≡ []
+      → Keeps (account_in meaning c) (account_in meaning (record c { seat = seat; pass = pass }))
+  call_keeps seat more pass action told ends none =
+      let own = subst (λ (k : ℕ). EndsWith k (seen_by c.pass) action told (seen_by pass)) fits.idle.seated.pass_number ends in record {
+        number = refl;
+        mine = refl;
+        ends = refl;
+        asked = ends_tokens c.number (seen_by c.pass) action told (seen_by pass) own ∙ (ap (λ (l : List Action). tokens_of c.number (seen_by c.pass) ++ l) none ∙ append-nil (tokens_of c.number (seen_by c.pass)));
+        attempts = refl;
+        read_faults = refl;
+        seen = record { start = refl; opening = refl; published = more; controller_calls = ends_begins c.number (seen_by c.pass) action told (seen_by pass) own; log_reads = prefix_self _; logged = omega arith; batches = prefix_self _ };
+        tokens = refl;
+      }
 
   -- it gave back what it held
-  module _ (pass : Pass) (middle : List ControllerCall) (a b : Bool) (first : GivesBackIn a (pass_client c.pass) (seen_by c.pass) unstop middle) (second : GivesBackIn b (pass_client c.pass) middle unslow (seen_by pass)) where
-    back_delays : (k : ℕ) → k ≡ c.number → GivesBackIn a k (seen_by c.pass) unstop middle → GivesBackIn b k middle unslow (seen_by pass) → delays_of c.number (seen_by pass) ≡ delays_of c.number (seen_by c.pass)
+  module _ (shown : ℕ) (pass : Pass) (middle : List ControllerCall) (a b : Bool) (first : GivesBackIn a (pass_client c.pass) (seen_by c.pass) (unstop shown) middle) (second : GivesBackIn b (pass_client c.pass) middle (unslow shown) (seen_by pass)) where
+    back_delays : (k : ℕ) → k ≡ c.number → GivesBackIn a k (seen_by c.pass) (unstop shown) middle → GivesBackIn b k middle (unslow shown) (seen_by pass) → delays_of c.number (seen_by pass) ≡ delays_of c.number (seen_by c.pass)
     back_delays k is f s = subst (λ (n : ℕ). delays_of n (seen_by pass) ≡ delays_of n (seen_by c.pass)) is
-        (back_no_delays b k middle unslow (seen_by pass) refl s ∙ back_no_delays a k (seen_by c.pass) unstop middle refl f)
+        (back_no_delays b k middle (unslow shown) (seen_by pass) refl s ∙ back_no_delays a k (seen_by c.pass) (unstop shown) middle refl f)
 
     pub end_moved : IsPassOf e.controller pass → pass_client pass ≡ pass_client c.pass → IsClientOf meaning e (record c { pass = pass })
     end_moved own same = pass_moved pass own same (back_delays (pass_client c.pass) fits.idle.seated.pass_number first second)
 
-    pub end_gives : pass_client pass ≡ pass_client c.pass → asked_by pass ≡ asked_by c.pass ++ given_back (asked_by c.pass) → GivesBack (account_in meaning c) (account_in meaning (record c { pass = pass }))
-    end_gives same tokens = record {
+    pub end_gives : (seat : S) → Begins (meaning.account c.seat).seen (meaning.account seat).seen → last_of c.start (meaning.account c.seat).seen ≤ shown → pass_client pass ≡ pass_client c.pass → asked_by pass ≡ asked_by c.pass ++ given_back (asked_by c.pass) shown
+        → GivesBack (account_in meaning c) (account_in meaning (record c { seat = seat; pass = pass }))
+    end_gives seat more had same tokens = record {
       number = refl;
       mine = refl;
       ends = refl;
-      asked = ap (λ (k : ℕ). tokens_of k (seen_by pass)) (sym (same ∙ fits.idle.seated.pass_number)) ∙ (tokens ∙ ap (λ (l : List Action). l ++ given_back l) same_tokens);
+      asked = ap (λ (k : ℕ). tokens_of k (seen_by pass)) (sym (same ∙ fits.idle.seated.pass_number)) ∙ (tokens ∙ ap (λ (l : List Action). l ++ given_back l shown) same_tokens);
+      shown = shown;
+      had = had;
       attempts = refl;
       read_faults = refl;
       seen = record {
         start = refl;
         opening = refl;
-        published = begins_self (meaning.account c.seat).seen;
-        controller_calls = prefix_trans (seen_by c.pass) middle (seen_by pass) (back_begins a (pass_client c.pass) (seen_by c.pass) unstop middle first) (back_begins b (pass_client c.pass) middle unslow (seen_by pass) second);
+        published = more;
+        controller_calls = prefix_trans (seen_by c.pass) middle (seen_by pass) (back_begins a (pass_client c.pass) (seen_by c.pass) (unstop shown) middle first) (back_begins b (pass_client c.pass) middle (unslow shown) (seen_by pass) second);
         log_reads = prefix_self _;
         logged = omega arith;
         batches = prefix_self _;

@@ -5,7 +5,7 @@ use mathlib.Core.List.{IsPrefix}
 use Rattle.log_writer.specs.declared.group_log.GroupLog.{Ghosts}
 use Rattle.model_base.specs.Controller.{look}
 use Rattle.model_base.specs.Progress.{early_refusal}
-use Rattle.model_base.specs.Tokens.{holds_stop, tokens_of}
+use Rattle.model_base.specs.Tokens.{holds_stop, tokens_of, shown_by_tokens}
 use Rattle.model_base.proofs.Runs.{later_in}
 use Rattle.table_rule.specs.Histories.{Begins, last_of}
 use Rattle.line_writers.specs.Seats.{answers_told}
@@ -64,7 +64,8 @@ ends_joined {C} {D} {T} {S} {U} {P} {ghosts} meaning controller opened start q p
 module _ {D T C G S U P : Type 0} {ghosts : Ghosts D} (meaning : Meaning T S U P) (e : GroupEngine D T C G S U P ghosts) (v : EngineClient D T C S U P ghosts) (seat : S) (envelope : Option (Unit {0})) (w x : EngineClient D T C S U P ghosts) (q : Request) (p : Answer) (starts : v.start ≡ (meaning.opening e.table).start)
     (number : x.number ≡ w.number) (start : x.start ≡ w.start) (writer : x.writer ≡ w.writer) (table : x.table ≡ w.table) (sees : Begins (meaning.account v.seat).seen (meaning.account x.seat).seen) (first : SeesMore v.number (seen_by v.pass) (seen_by w.pass)) (goes : GoesOn w.number (seen_by w.pass) (seen_by x.pass))
     (noted : IfSome p.note (λ (n : Noted). IsPrefix (seen_by_note n) (seen_by x.pass))) (published : IfOk p.answer (λ (r : Receipt). r.group_last ≤ last_of (meaning.opening e.table).start (meaning.account x.seat).seen))
-    (passed : early_refusal e.families e.batch_bytes (holds_stop (tokens_of v.number (seen_by v.pass))) q.batch.records q.options ≡ None) (free : holds_stop (tokens_of v.number (seen_by v.pass)) ≡ false) (above : IsAbove (last_of v.start (meaning.account v.seat).seen) p.answer) where
+    (passed : early_refusal e.families e.batch_bytes (holds_stop (tokens_of v.number (seen_by v.pass))) q.batch.records q.options ≡ None) (free : holds_stop (tokens_of v.number (seen_by v.pass)) ≡ false) (above : IsAbove (last_of v.start (meaning.account v.seat).seen) p.answer)
+    (unseen : IfSome p.note (λ (n : Noted). IsAbove (shown_by_tokens (seen_by_note n)) p.answer)) (had : last_of v.start (meaning.account v.seat).seen ≤ q.shown) where
   abbrev joining : EngineClient D T C S U P ghosts
   joining = record v { seat = seat; envelope = envelope }
 
@@ -93,7 +94,7 @@ module _ {D T C G S U P : Type 0} {ghosts : Ghosts D} (meaning : Meaning T S U P
       let kept = subst (λ (n : ℕ). AreHandled e.controller (opened_log e) n A.handled) (sym starts) A.are_handled in
       let reached = subst (λ (n : ℕ). IfOk p.answer (λ (r : Receipt). r.group_last ≤ last_of n (meaning.account x.seat).seen)) (sym starts) published in
       as_account A.number A.start_same A.table_same (answers_told v.writer ++ (r, p) ∷ []) A.told_now
-      (concludes e.controller (opened_log e) v.start (map_at_opening meaning v.table.value) v.number (settings_of meaning e) r p (answers_told v.writer) A.handled kept A.own (meaning.account v.seat).seen (meaning.account x.seat).seen sees (seen_by v.pass) (seen_by x.pass) (sees_more A.number) h.shows noted passed free above writes p.answer refl reached)
+      (concludes e.controller (opened_log e) v.start (map_at_opening meaning v.table.value) v.number (settings_of meaning e) r p (answers_told v.writer) A.handled kept A.own (meaning.account v.seat).seen (meaning.account x.seat).seen sees (seen_by v.pass) (seen_by x.pass) (sees_more A.number) h.shows noted passed free above unseen had writes p.answer refl reached)
 
   module _ (A : IsLeftOut e.controller q p joining w) where
     abbrev own : Account

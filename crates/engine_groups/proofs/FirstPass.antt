@@ -50,7 +50,7 @@ begins_further client a b c p g = (p.0 ++ g.between, sym (append_assoc a p.0 g.b
 pub history_before : (xs : List Pass) (p q : Pass) (calls : List ControllerCall) → 0 < length xs → p ≡ get_or xs 0 p → GoesOn 1 (seen_by p) (seen_by q)
     → IsHistoryOf (set xs 0 q) calls → IsHistoryOf xs calls
 history_before [] p q calls some at g w = absurd (omega arith)
-history_before (y ∷ ys) p q calls some at g w = record { legal = w.legal; clients = w.clients; each = each }
+history_before (y ∷ ys) p q calls some at g w = record { legal = w.legal; heard = w.heard; clients = w.clients; each = each }
   where
     each : (i : ℕ) (x : Pass) → slice_get (y ∷ ys) i ≡ Some x → GoesOn (i + 1) (seen_by x) calls
     each zero x is = let same : p ≡ x = cc in subst (λ (z : Pass). GoesOn 1 (seen_by z) calls) same (goes_further 1 (seen_by p) (seen_by q) calls g (w.each 0 q refl))

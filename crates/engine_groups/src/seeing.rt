@@ -3,6 +3,7 @@
 ghost use Rattle.std.specs.Prelude.{◌≡◌, true, ◌≤◌, IfOk, IfSome};
 ghost use mathlib.Core.List.{IsPrefix};
 ghost use Rattle.table_rule.specs.Histories.{Begins, last_of};
+ghost use Rattle.model_base.specs.Tokens.{shown_by_tokens};
 ghost use Rattle.engine_controller.specs.Passes.{seen_by, seen_by_note, GoesOn, IsNoteOf};
 ghost use Rattle.engine_groups.specs.Clients.{IsClientOf};
 ghost use Rattle.engine_parts.specs.Runs.{IsAbove};
@@ -20,7 +21,7 @@ use table_calls::Table;
 use table_nodes::{Nodes, Parts};
 
 /// Waits until an answer speaks of sequences above `shown`. Up to `shown` the client had seen what is published when
-/// it made the call.
+/// it made the call, or others had who took tokens or gave them back before the group's leader decided.
 ///
 /// It never waits: runs are given one after the other, and what is published got its runs before. But where groups go
 /// into the table in a stage of their own, no rule speaks of the log and of the table at the same moment, so it isn't
@@ -64,6 +65,17 @@ impl<
     Time: Clock + Drop,
     Watch: Gate + Drop,
 > GroupEngine<Log, Versions, Time, Watch> {
+    /// Up to which sequence, at most, clients had been shown what is published as they took tokens or gave them back, by
+    /// the calls that an answer's note shows; 0 where it has none.
+    pub(crate) fn shown_by(&self, note: &Option<Note>) -> u64
+        ensures { IfSome note.now (λ n. result ≡ shown_by_tokens (seen_by_note n)) }
+    {
+        match note {
+            Some(note) => self.controller.shown_by(note),
+            None => 0,
+        }
+    }
+
     /// Lets the client see what its answer speaks of: its published group, and the delay of that group, or the leader's
     /// look because of which it was refused.
     pub(crate) fn see<R: Wait + rt::Clock>(

@@ -82,6 +82,7 @@ impl<
             options: PLAIN,
             note: None,
             since: Some(since),
+            shown: 0,
         };
         // It is there between two calls, and comes back with the answer.
         let Some(envelope) = client.envelope.take() else {

@@ -114,6 +114,7 @@ impl<
             // It gets one as it is linked.
             note: None,
             since: None,
+            shown,
         };
         // It is there between two calls, and comes back with the answer.
         let Some(envelope) = client.envelope.take() else {
@@ -127,8 +128,11 @@ impl<
             note,
             read: _,
         } = told;
+        // It is above all, too, that had been shown to those who took tokens or gave them back before the leader of the
+        // group decided.
+        let most = shown.max(self.shown_by(&note));
         let pauses = self.list.pauses();
-        await_above(rt, &pauses, shown, &answer);
+        await_above(rt, &pauses, most, &answer);
         // The client gets its answer only once its own reads see the whole group.
         self.see(rt, client, &answer, note);
         answer

@@ -52,7 +52,7 @@ use Rattle.engine_groups.proofs.leader.Right.TheSendSync as right
 use Rattle.engine_parts.specs.contracts.numbering.Numbering as numbering
 
 request_fields : AllSend (fields request.the_type)
-request_fields = (batch.the_send, (nodes_send, (options.the_field_send, (search (sendable, note.the_send), (search sendable, tt)))))
+request_fields = (batch.the_send, (nodes_send, (options.the_field_send, (search (sendable, note.the_send), (search sendable, (search sendable, tt))))))
 
 read_send : IsSend (result_row.the_row since_row.the_row since_refused_row.the_row)
 read_send = search (sendable, since.the_send, since_refused.the_send) depth 12

@@ -9,6 +9,7 @@ pub mod Sizes
 pub mod Apart
 pub mod Staging
 pub mod Views
+pub mod Saying
 pub mod Standing
 pub mod Logged
 pub mod Whole

@@ -1,12 +1,12 @@
 -- What holds once the group of a leader that has asked for its delay is refused or written.
-use Rattle.std.proofs.Common.{◌≡◌, ℕ, ◌+◌, ◌-◌, Bool, true, get_or, take, drop, map, slice_get, Option, Some, None, List, [], ◌∷◌, ◌++◌, length, refl, sym, ap, ◌∙◌, subst, arith, append-nil, length-append}
+use Rattle.std.proofs.Common.{◌≡◌, ◌≢◌, ◌≤◌, ℕ, ◌+◌, ◌-◌, Bool, true, get_or, take, drop, map, slice_get, Option, Some, None, List, [], ◌∷◌, ◌++◌, length, refl, sym, ap, ◌∙◌, subst, arith, append_assoc, append-nil, length-append}
 use Rattle.std.specs.List.{AllByRecursion, AllZip}
 use Rattle.std.proofs.lemmas.List.{length-map, drop_all, take_all}
 use mathlib.Core.List.{IsPrefix}
 use Rattle.log_writer.specs.declared.group_log.GroupLog.{Ghosts}
-use Rattle.model_base.specs.Controller.{ControllerCall, Look, HoldUp, delay}
+use Rattle.model_base.specs.Controller.{ControllerCall, Look, HoldUp, delay, say}
 use Rattle.model_base.specs.Grouping.{size_of}
-use Rattle.model_base.specs.Tokens.{tokens_of}
+use Rattle.model_base.specs.Tokens.{tokens_of, said_in}
 use Rattle.engine_parts.specs.declared.log.OpenLog.{OpenLog}
 use Rattle.engine_parts.specs.Logs.{fault_of}
 use Rattle.table_rule.specs.declared.content.MemberVersions.{MemberVersions}
@@ -22,18 +22,19 @@ use Rattle.engine_rule.specs.Consistent.{AreConsistent}
 use Rattle.engine_rule.specs.Entries.{SeesMore}
 use Rattle.engine_rule.specs.LogCalls.{SyncsFor}
 use Rattle.engine_rule.specs.Plans.{CommitRequest, item_of_request, up_to_delay, all_held_up, AreLawful, AreLogged, AreUnlogged, ComesAfter, IsAskedFor, IsWholeGroup, LetsProceed, MayNotWait, ProceedsWith}
-use Rattle.engine_rule.proofs.OneGroup.{prefix_trans}
+use Rattle.engine_rule.proofs.OneGroup.{all_append, prefix_trans}
 use Rattle.engine_rule.proofs.Steps.{consistent_held_up}
 use Rattle.engine_parts.specs.declared.requests.Delay.{Delay}
 use Rattle.engine_parts.specs.declared.requests.Request.{Request}
 use Rattle.engine_parts.specs.declared.requests.Answer.{Answer}
-use Rattle.engine_parts.specs.Asking.{HasAskedFor, OnlyLooks, all_seen}
-use Rattle.engine_parts.specs.Handled.{ComesBack, HandsBack, InOrder, IsDelayed, IsHeldUp, IsNotHeldUp, IsNotedAs, IsReplyOf, ShowsDelay, answer_in, commit_if, commit_of, commit_request_of, commit_requests_of, handled_with, noted_in, reads_handled, reads_of, seen_at, seen_for, went_at, went_for, heard_at, commits_in, first_of, has_run, sight_if, sight_of, sights_in}
+use Rattle.engine_parts.specs.Asking.{HasAskedFor, OnlyLooks, all_seen, greatest_shown}
+use Rattle.engine_parts.specs.Handled.{ComesBack, EndsInDelay, HandsBack, InOrder, IsDelayed, IsHeldUp, IsNotHeldUp, IsNotedAs, IsReplyOf, ShowsDelay, answer_in, commit_if, commit_of, commit_request_of, commit_requests_of, handled_with, noted_in, reads_handled, reads_of, seen_at, seen_for, went_at, went_for, heard_at, commits_in, first_of, has_run, sight_if, sight_of, sights_in}
 use Rattle.engine_parts.specs.LogLaw.{Covers}
 use Rattle.log_updates.specs.declared.places.LogPlace.{LogPlace}
 use Rattle.engine_parts.specs.Led.{AreAlike, IsLedGroup, LeadsBy}
 use Rattle.engine_parts.specs.Handled.{IsReplyAt}
-use Rattle.engine_parts.proofs.Views.{Saw, unnoted, unseen_commits}
+use Rattle.engine_parts.proofs.Views.{HadAtMost, Saw, WasAsked, shown_by_all, unnoted, unseen_commits}
+use Rattle.engine_parts.proofs.Saying.{said_in_prefix, said_last}
 use Rattle.engine_rule.specs.Reading.{AnsweredRead}
 use Rattle.engine_rule.specs.LogSights.{LogSight, worked_in, written_if, sights_without, ShowTheLog}
 use Rattle.engine_rule.proofs.LogSights.{shown_without}
@@ -51,25 +52,45 @@ module _ (k : ℕ) (seen asked after : List ControllerCall) (requests : List (�
   abbrev call : ControllerCall
   call = record { client = k; action = delay h.now bytes; told = Some numbers }
 
-  ends : EndsWith k seen (delay h.now bytes) (Some numbers) after
-  ends = record {
-    between = h.goes_on.between;
-    is = h.is ∙ ap (λ (l : List ControllerCall). l ++ call ∷ []) h.goes_on.is;
-    others = h.goes_on.others;
-    legal = h.legal;
+  abbrev most : ℕ
+  most = greatest_shown requests
+
+  -- all that the leader has seen before the delay
+  abbrev before : List ControllerCall
+  before = h.said ++ h.asks.between
+
+  learned_begins : IsPrefix h.learned before
+  learned_begins = prefix_trans h.learned h.said before (ends_begins k h.learned (say most) None h.said h.says) (h.asks.between, refl)
+
+  -- what the leader said is its own first call
+  said_first : EndsWith k seen (say most) None h.said
+  said_first = record {
+    between = h.goes_on.between ++ h.says.between;
+    is = h.says.is ∙ ap (λ (l : List ControllerCall). l ++ record { client = k; action = say most; told = None } ∷ [])
+        (ap (λ (l : List ControllerCall). l ++ h.says.between) h.goes_on.is ∙ append_assoc seen h.goes_on.between h.says.between);
+    others = all_append (λ (t : ControllerCall). t.client ≢ k) h.goes_on.between h.says.between h.goes_on.others h.says.others;
+    legal = h.says.legal;
   }
 
+  -- neither what it said nor the delay is a token call
   pub asked_sees : SeesMore k seen after
   asked_sees = record {
-    begins = ends_begins k seen (delay h.now bytes) (Some numbers) after ends;
-    tokens = ends_tokens k seen (delay h.now bytes) (Some numbers) after ends ∙ append-nil (tokens_of k seen);
+    begins = prefix_trans seen h.said after (ends_begins k seen (say most) None h.said said_first) (ends_begins k h.said (delay h.now bytes) (Some numbers) after h.asks);
+    tokens = ends_tokens k h.said (delay h.now bytes) (Some numbers) after h.asks ∙ append-nil (tokens_of k h.said)
+        ∙ (ends_tokens k seen (say most) None h.said said_first ∙ append-nil (tokens_of k seen));
   }
 
   pub asked_delays : delays_of k after ≡ delays_of k seen ++ (length after - 1) ∷ []
-  asked_delays = ends_delays k seen (delay h.now bytes) (Some numbers) after ends
+  asked_delays = ends_delays k h.said (delay h.now bytes) (Some numbers) after h.asks
+      ∙ ap (λ (l : List ℕ). l ++ (length after - 1) ∷ []) (ends_delays k seen (say most) None h.said said_first ∙ append-nil (delays_of k seen))
 
   pub asked_after : ComesAfter asked after
-  asked_after = record { more = h.leaders.0; call = call; is = h.is ∙ ap (λ (l : List ControllerCall). l ++ call ∷ []) (sym h.leaders.1) }
+  asked_after =
+      let leaders : IsPrefix asked before = prefix_trans asked h.learned before h.leaders learned_begins in
+      record { more = leaders.0; call = call; is = h.asks.is ∙ ap (λ (l : List ControllerCall). l ++ call ∷ []) (sym leaders.1) }
+
+  pub asked_ends : EndsInDelay k numbers after
+  asked_ends = (before, h.now, bytes, h.asks.is)
 
   pub asked_is : (group_bytes clients : ℕ) → IsLedGroup group_bytes clients requests → LeadsBy k requests → IsAskedFor (commit_requests_of requests) numbers after
   asked_is group_bytes clients led leads =
@@ -78,29 +99,43 @@ module _ (k : ℕ) (seen asked after : List ControllerCall) (requests : List (�
         leader = commit_request_of led.first;
         rest = commit_requests_of led.rest;
         leads = ap commit_requests_of led.leads;
-        before = h.before;
+        before = before;
         now = h.now;
-        is = h.is ∙ ap (λ (c : ℕ). h.before ++ record { client = c; action = delay h.now bytes; told = Some numbers } ∷ []) (sym own);
+        is = h.asks.is ∙ ap (λ (c : ℕ). before ++ record { client = c; action = delay h.now bytes; told = Some numbers } ∷ []) (sym own);
       }
 
-  size_after : length after ≡ length h.before + 1
-  size_after = ap length h.is ∙ length-append h.before (call ∷ [])
+  size_after : length after ≡ length before + 1
+  size_after = ap length h.asks.is ∙ length-append before (call ∷ [])
 
   there : slice_get after (length after - 1) ≡ Some call
   there =
-      let n : length after - 1 ≡ length h.before = (let s = size_after in omega (arith, s)) in
-      subst (λ (z : List ControllerCall × ℕ). slice_get z.0 z.1 ≡ Some call) (λ i. (sym h.is i, sym n i)) (get_behind h.before [] call)
+      let n : length after - 1 ≡ length before = (let s = size_after in omega (arith, s)) in
+      subst (λ (z : List ControllerCall × ℕ). slice_get z.0 z.1 ≡ Some call) (λ i. (sym h.asks.is i, sym n i)) (get_behind before [] call)
 
-  pub asked_shown : (x : ℕ × Request) → Saw h.before x → IsDelayed (noted_in x.1.note) after numbers
-  asked_shown x saw = record {
-    by = k;
-    now = h.now;
-    bytes = bytes;
-    is_later = record {
-      later = (let l = ap length saw.1 in let m = length-append (noted_in x.1.note) saw.0 in let s = size_after in omega (arith, l, m, s));
-      there = there;
-    };
-  }
+  one_asked : (x : ℕ × Request) → Saw h.learned x → HadAtMost most x → WasAsked after numbers x
+  one_asked x saw shown =
+      let met : IsPrefix (noted_in x.1.note) before = prefix_trans (noted_in x.1.note) h.learned before saw learned_begins in
+      let own : most ≤ said_in h.said = said_last k most h.learned h.said h.says in
+      let more : said_in h.said ≤ said_in after = said_in_prefix h.said after (ends_begins k h.said (delay h.now bytes) (Some numbers) after h.asks) in (
+        record {
+          by = k;
+          now = h.now;
+          bytes = bytes;
+          is_later = record {
+            later = (let l = ap length met.1 in let m = length-append (noted_in x.1.note) met.0 in let s = size_after in omega (arith, l, m, s));
+            there = there;
+          };
+        },
+        omega (arith, shown, own, more),
+      )
+
+  all_asked : (xs : List (ℕ × Request)) → AllByRecursion (Saw h.learned) xs → AllByRecursion (HadAtMost most) xs → AllByRecursion (WasAsked after numbers) xs
+  all_asked [] saw shown = tt
+  all_asked (x ∷ xs) saw shown = (one_asked x saw.0 shown.0, all_asked xs saw.1 shown.1)
+
+  -- the delay comes after all that the members had seen, and no member had been shown more than what was said up to it
+  pub asked_shown : AllByRecursion (WasAsked after numbers) requests
+  asked_shown = all_asked requests h.members (shown_by_all 0 requests)
 
 -- what a client has seen also goes on where only looks follow
 pub looks_sees : (k : ℕ) (seen middle after : List ControllerCall) → SeesMore k seen middle → OnlyLooks k middle after → SeesMore k seen after
@@ -195,24 +230,25 @@ sights_unnoted (x ∷ requests) (y ∷ replies) = ap (λ (l : List LogSight). si
 -- A written group
 
 module _ {C : Type 0} (controller : Controller C) (d : Delay) (seen : List ControllerCall) (begins : IsPrefix (seen_at d) (went_at d)) (shows : IsPrefix (went_at d) seen) where
-  reply_shown : (x : ℕ × Request) (y z : ℕ × Answer) → IsReplyOf d y → IsNotedAs controller seen y z → (x.1.since ≡ None → (numbers : Look) × IsDelayed (noted_in x.1.note) (seen_at d) numbers)
+  reply_shown : (x : ℕ × Request) (y z : ℕ × Answer) → IsReplyOf d y → IsNotedAs controller seen y z → (x.1.since ≡ None → (numbers : Look) × WasAsked (seen_at d) numbers x)
       → ShowsDelay controller (record { by = x.0; asked = x.1; reply = z.1 })
-  reply_shown x y z r n delayed =
+  reply_shown x y z r n was =
       let calls : seen_for z.1 ≡ seen_at d = ap seen_for n.2 ∙ ap seen_at r.0 in
       let went : went_for z.1 ≡ went_at d = ap went_for n.2 ∙ ap went_at r.0 in
       record {
         noted = λ writes. notes_all controller seen y z n (subst (λ (l : List ControllerCall). IsPrefix l seen) (sym (ap went_at r.0)) shows);
         begins = λ writes. subst (λ (w : List ControllerCall × List ControllerCall). IsPrefix w.0 w.1) (λ i. (sym calls i, sym went i)) begins;
-        delayed = λ writes. (let t = delayed writes in (t.0, subst (λ (l : List ControllerCall). IsDelayed (noted_in x.1.note) l t.0) (sym calls) t.1));
+        delayed = λ writes. (let t = was writes in (t.0, subst (λ (l : List ControllerCall). IsDelayed (noted_in x.1.note) l t.0) (sym calls) t.1.0));
+        said = λ writes. subst (λ (l : List ControllerCall). x.1.shown ≤ said_in l) (sym calls) (was writes).1.1;
         held_up = λ numbers e. absurd (subst IsNotHeldUp (sym (ap (λ (p : Answer). answer_in p.answer) n.2) ∙ e) r.2);
       }
 
   pub replies_shown : (requests : List (ℕ × Request)) (ys zs : List (ℕ × Answer)) → AllByRecursion (IsReplyOf d) ys → AllZip (IsNotedAs controller seen) ys zs
-      → AllByRecursion (λ (x : ℕ × Request). x.1.since ≡ None → (numbers : Look) × IsDelayed (noted_in x.1.note) (seen_at d) numbers) requests → AllByRecursion (ShowsDelay controller) (handled_with requests zs)
-  replies_shown [] ys zs h zip delayed = tt
-  replies_shown (x ∷ requests) ys [] h zip delayed = tt
-  replies_shown (x ∷ requests) [] (z ∷ zs) h zip delayed = absurd zip
-  replies_shown (x ∷ requests) (y ∷ ys) (z ∷ zs) h zip delayed = (reply_shown x y z h.0 zip.0 delayed.0, replies_shown requests ys zs h.1 zip.1 delayed.1)
+      → AllByRecursion (λ (x : ℕ × Request). x.1.since ≡ None → (numbers : Look) × WasAsked (seen_at d) numbers x) requests → AllByRecursion (ShowsDelay controller) (handled_with requests zs)
+  replies_shown [] ys zs h zip was = tt
+  replies_shown (x ∷ requests) ys [] h zip was = tt
+  replies_shown (x ∷ requests) [] (z ∷ zs) h zip was = absurd zip
+  replies_shown (x ∷ requests) (y ∷ ys) (z ∷ zs) h zip was = (reply_shown x y z h.0 zip.0 was.0, replies_shown requests ys zs h.1 zip.1 was.1)
 
 -- the replies to reads of the log need no notes
 pub reads_shown : {C : Type 0} (controller : Controller C) (d : Delay) (requests : List (ℕ × Request)) (replies : List (ℕ × Answer)) → AllByRecursion (IsReplyOf d) replies
@@ -224,6 +260,7 @@ reads_shown controller d (x ∷ requests) (y ∷ replies) h reads = (
     noted = λ writes. absurd (none_read x.1.since reads.0.0 reads.0.1 writes);
     begins = λ writes. absurd (none_read x.1.since reads.0.0 reads.0.1 writes);
     delayed = λ writes. absurd (none_read x.1.since reads.0.0 reads.0.1 writes);
+    said = λ writes. absurd (none_read x.1.since reads.0.0 reads.0.1 writes);
     held_up = λ numbers e. absurd (subst IsNotHeldUp e h.0.2);
   },
   reads_shown controller d requests replies h.1 reads.1,
@@ -236,11 +273,11 @@ pub replies_at : (d : Delay) (known : List ControllerCall) → seen_at d ≡ kno
 replies_at d known is [] h = tt
 replies_at d known is (y ∷ replies) h = (ap seen_at h.0.0 ∙ is, replies_at d known is replies h.1)
 
--- what the leader asked for comes after all that its members had seen
-pub delayed_all : (before known : List ControllerCall) (numbers : Look) → ((x : ℕ × Request) → Saw before x → IsDelayed (noted_in x.1.note) known numbers) → (requests : List (ℕ × Request)) → AllByRecursion (Saw before) requests
-    → AllByRecursion (λ (x : ℕ × Request). x.1.since ≡ None → (n : Look) × IsDelayed (noted_in x.1.note) known n) requests
-delayed_all before known numbers f [] saw = tt
-delayed_all before known numbers f (x ∷ requests) saw = ((λ writes. (numbers, f x saw.0)), delayed_all before known numbers f requests saw.1)
+-- what the leader asked for is what each write of its group was asked for
+pub delayed_all : (known : List ControllerCall) (numbers : Look) (requests : List (ℕ × Request)) → AllByRecursion (WasAsked known numbers) requests
+    → AllByRecursion (λ (x : ℕ × Request). x.1.since ≡ None → (n : Look) × WasAsked known n x) requests
+delayed_all known numbers [] was = tt
+delayed_all known numbers (x ∷ requests) was = ((λ writes. (numbers, was.0)), delayed_all known numbers requests was.1)
 
 -- A refused group
 
@@ -294,18 +331,19 @@ module _ (d : Delay) (numbers : Look) where
 
 -- once the replies have their notes
 module _ {C : Type 0} (controller : Controller C) (d : Delay) (numbers : Look) (seen : List ControllerCall) (begins : IsPrefix (seen_at d) (went_at d)) (shows : IsPrefix (went_at d) seen) (hold : HoldUp numbers) where
-  one_shown : (x : ℕ × Request) (y z : ℕ × Answer) → IsHeldUp d numbers (unnoted x) y → IsNotedAs controller seen y z → x.1.options.no_slowdown ≡ true → IsDelayed (noted_in x.1.note) (seen_at d) numbers
+  one_shown : (x : ℕ × Request) (y z : ℕ × Answer) → IsHeldUp d numbers (unnoted x) y → IsNotedAs controller seen y z → x.1.options.no_slowdown ≡ true → WasAsked (seen_at d) numbers x
       → ShowsDelay controller (record { by = x.0; asked = x.1; reply = z.1 })
-  one_shown x y z h n may_not delayed =
+  one_shown x y z h n may_not asked =
       let was : seen_for y.1 ≡ seen_at d = ap seen_at h.2 in
       let calls : seen_for z.1 ≡ seen_at d = ap seen_for n.2 ∙ was in
       let went : went_for z.1 ≡ went_at d = ap went_for n.2 ∙ ap went_at h.2 in
       let told : answer_in z.1.answer ≡ held_up numbers = ap (λ (p : Answer). answer_in p.answer) n.2 ∙ ap answer_in h.1 in
-      let late : IsDelayed (noted_in x.1.note) (seen_for z.1) numbers = subst (λ (l : List ControllerCall). IsDelayed (noted_in x.1.note) l numbers) (sym calls) delayed in
+      let late : IsDelayed (noted_in x.1.note) (seen_for z.1) numbers = subst (λ (l : List ControllerCall). IsDelayed (noted_in x.1.note) l numbers) (sym calls) asked.0 in
       record {
         noted = λ writes. notes_all controller seen y z n (subst (λ (l : List ControllerCall). IsPrefix l seen) (sym (ap went_at h.2)) shows);
         begins = λ writes. subst (λ (w : List ControllerCall × List ControllerCall). IsPrefix w.0 w.1) (λ i. (sym calls i, sym went i)) begins;
         delayed = λ writes. (numbers, late);
+        said = λ writes. subst (λ (l : List ControllerCall). x.1.shown ≤ said_in l) (sym calls) asked.1;
         held_up = λ other e.
             let same : numbers ≡ other = told_same numbers other (sym told ∙ e) in
             (may_not, subst HoldUp same hold, subst (IsDelayed (noted_in x.1.note) (seen_for z.1)) same late);
@@ -314,14 +352,13 @@ module _ {C : Type 0} (controller : Controller C) (d : Delay) (numbers : Look) (
       told_same : (a b : Look) → held_up a ≡ held_up b → a ≡ b
       told_same a b e = cc
 
-  pub held_shown : (before : List ControllerCall) → ((x : ℕ × Request) → Saw before x → IsDelayed (noted_in x.1.note) (seen_at d) numbers) → (requests : List (ℕ × Request)) (ys zs : List (ℕ × Answer))
-      → AllZip (IsHeldUp d numbers) (all_seen requests) ys → AllZip (IsNotedAs controller seen) ys zs → MayNotWait (commit_requests_of requests) → AllByRecursion (Saw before) requests
+  pub held_shown : (requests : List (ℕ × Request)) (ys zs : List (ℕ × Answer))
+      → AllZip (IsHeldUp d numbers) (all_seen requests) ys → AllZip (IsNotedAs controller seen) ys zs → MayNotWait (commit_requests_of requests) → AllByRecursion (WasAsked (seen_at d) numbers) requests
       → AllByRecursion (ShowsDelay controller) (handled_with requests zs)
-  held_shown before f [] ys zs h zip may saw = tt
-  held_shown before f (x ∷ requests) [] zs h zip may saw = absurd h
-  held_shown before f (x ∷ requests) (y ∷ ys) [] h zip may saw = absurd zip
-  held_shown before f (x ∷ requests) (y ∷ ys) (z ∷ zs) h zip may saw =
-      (one_shown x y z h.0 zip.0 may.0 (f x saw.0), held_shown before f requests ys zs h.1 zip.1 may.1 saw.1)
+  held_shown [] ys zs h zip may asked = tt
+  held_shown (x ∷ requests) [] zs h zip may asked = absurd h
+  held_shown (x ∷ requests) (y ∷ ys) [] h zip may asked = absurd zip
+  held_shown (x ∷ requests) (y ∷ ys) (z ∷ zs) h zip may asked = (one_shown x y z h.0 zip.0 may.0 asked.0, held_shown requests ys zs h.1 zip.1 may.1 asked.1)
 
 -- The law of log and table
 

@@ -1,14 +1,16 @@
 -- What a leader's pass has seen of the write controller while the leader asks for its group.
-use Rattle.std.proofs.Common.{◌≡◌, ◌≢◌, inr, ℕ, zero, suc, ◌<◌, ◌≤◌, false, List, [], ◌∷◌, ◌++◌, map, take, drop, reverse, get_or, Option, Some, None, IfSome, length, refl, sym, ap, ◌∙◌, subst, arith, append_assoc, append-nil, length-append}
+use Rattle.std.proofs.Common.{◌≡◌, ◌≢◌, inr, ℕ, zero, suc, ◌+◌, ◌<◌, ◌≤◌, false, List, [], ◌∷◌, ◌++◌, fold, map, max, take, drop, reverse, get_or, Option, Some, None, IfSome, length, refl, sym, ap, ◌∙◌, subst, arith, append_assoc, append-nil, length-append}
 use Rattle.std.specs.List.{AllByRecursion, AllZip}
 use Rattle.std.proofs.Props.{props}
+use Rattle.std.proofs.lemmas.List.{take_more}
+use Rattle.std.proofs.lemmas.List.Sums.{fold-append}
 use mathlib.Core.List.{IsPrefix}
 use Rattle.model_base.specs.declared.limits.TheConstants.{MAX_SIZE}
 use Rattle.model_base.specs.Controller as controller
-use Rattle.model_base.specs.Controller.{ControllerCall, Numbers, Look, numbers_after, IsHistoryFrom, IsLegal, look, delay}
+use Rattle.model_base.specs.Controller.{ControllerCall, Look, IsLegal, look, delay, say}
 use Rattle.model_base.specs.Batch.{count_of, size_of_batch}
 use Rattle.model_base.specs.Grouping.{size_of}
-use Rattle.model_base.specs.Tokens.{tokens_of}
+use Rattle.model_base.specs.Tokens.{tokens_of, said_in}
 use Rattle.table_rule.specs.Batches.{new_versions}
 use Rattle.table_rule.specs.declared.content.Version.{Version}
 use Rattle.engine_controller.specs.Delays.{delays_of}
@@ -25,8 +27,8 @@ use Rattle.engine_rule.proofs.OneGroup.{all_append, prefix_trans}
 use Rattle.engine_parts.specs.declared.requests.Delay.{Delay}
 use Rattle.engine_parts.specs.declared.requests.Request.{Request}
 use Rattle.engine_parts.specs.declared.requests.Answer.{Answer}
-use Rattle.engine_parts.specs.Handled.{IsHeldUp, commit_request_of, commit_requests_of, noted_in}
-use Rattle.engine_parts.specs.Asking.{all_seen, HasAskedFor, HasLearned, OnlyLooks}
+use Rattle.engine_parts.specs.Handled.{IsDelayed, IsHeldUp, commit_request_of, commit_requests_of, noted_in}
+use Rattle.engine_parts.specs.Asking.{all_seen, greatest_shown, HasAskedFor, HasLearned, OnlyLooks}
 
 -- Histories that go on
 
@@ -48,18 +50,15 @@ goes_on client before middle after g h = record {
   legal = h.legal;
 }
 
--- a beginning of a legal history is legal
-legal_front_from : (n : Numbers) (xs ys : List ControllerCall) → IsHistoryFrom n (xs ++ ys) → IsHistoryFrom n xs
-legal_front_from n [] ys h = tt
-legal_front_from n (t ∷ xs) ys h = (h.0, legal_front_from (numbers_after n t.action) xs ys h.1)
-
-pub legal_front : (xs ys : List ControllerCall) → IsLegal (xs ++ ys) → IsLegal xs
-legal_front xs ys h = legal_front_from controller.opening xs ys h
-
 -- What members had seen
 
 abbrev pub Saw : List ControllerCall → ℕ × Request → Type 0
 Saw after x = IsPrefix (noted_in x.1.note) after
+
+-- these calls end with a delay that was asked for the member, after all that its note shows, and say no less than what
+-- its client had been shown
+abbrev pub WasAsked : List ControllerCall → Look → ℕ × Request → Type 0
+WasAsked known numbers x = IsDelayed (noted_in x.1.note) known numbers × (x.1.shown ≤ said_in known)
 
 pub members_on : (middle after : List ControllerCall) → IsPrefix middle after → (requests : List (ℕ × Request)) → AllByRecursion (Saw middle) requests → AllByRecursion (Saw after) requests
 members_on middle after p [] h = tt
@@ -105,7 +104,7 @@ pub read_counts : (q : Request) (since : ℕ) → q.since ≡ Some since → cou
 read_counts q since is = q.none since is
 
 abbrev pub noting : (q : Request) → Option Noted → q.nodes ≡ reverse (new_versions q.batch.records) → (q.since ≡ None → 1 ≤ count_of q.batch.records) → ((since : ℕ) → q.since ≡ Some since → count_of q.batch.records ≡ 0) → size_of_batch q.batch.records ≤ MAX_SIZE → Request
-noting q n m s z l = record { batch = q.batch; nodes = q.nodes; options = q.options; note = n; since = q.since; made_of = m; some = s; none = z; small = l }
+noting q n m s z l = record { batch = q.batch; nodes = q.nodes; options = q.options; note = n; since = q.since; shown = q.shown; made_of = m; some = s; none = z; small = l }
 
 -- the request with this note
 pub noting_as : (q : Request) (n o : Option Noted) (m : q.nodes ≡ reverse (new_versions q.batch.records)) (s : q.since ≡ None → 1 ≤ count_of q.batch.records) (z : (since : ℕ) → q.since ≡ Some since → count_of q.batch.records ≡ 0) (l : size_of_batch q.batch.records ≤ MAX_SIZE) → n ≡ o → noting q n m s z l ≡ record q { note = o }
@@ -115,6 +114,7 @@ noting_as q n o m s z l is = λ i. record {
   options = q.options;
   note = is i;
   since = q.since;
+  shown = q.shown;
   made_of = versions_prop q.nodes (reverse (new_versions q.batch.records)) m q.made_of i;
   some = λ write. low_prop 1 (count_of q.batch.records) (s write) (q.some write) i;
   none = λ since read. none_prop (count_of q.batch.records) 0 (z since read) (q.none since read) i;
@@ -134,31 +134,54 @@ all_at P (x ∷ xs) (suc i) d h a = all_at P xs i d (omega (arith, h)) a.1
 pub some_holds : {X : Type 0} (P : X → Type 0) (o : Option X) (x : X) → o ≡ Some x → IfSome o P → P x
 some_holds P o x is h = subst (λ o. IfSome o P) is h
 
+-- What members had been shown
+
+abbrev pub HadAtMost : ℕ → ℕ × Request → Type 0
+HadAtMost most x = x.1.shown ≤ most
+
+-- the greatest of a number and those of the members
+abbrev pub shown_from : ℕ → List (ℕ × Request) → ℕ
+shown_from most requests = fold (λ most (x : ℕ × Request). max most x.1.shown) most requests
+
+-- one more member is looked at
+pub shown_more : (requests : List (ℕ × Request)) (i : ℕ) (d : ℕ × Request) → i < length requests → greatest_shown (take (i + 1) requests) ≡ max (greatest_shown (take i requests)) (get_or requests i d).1.shown
+shown_more requests i d h = ap greatest_shown (take_more requests i d h) ∙ fold-append (λ most (x : ℕ × Request). max most x.1.shown) 0 (take i requests) (get_or requests i d ∷ [])
+
+-- taking the notes changes nothing of it
+shown_unseen : (most : ℕ) (requests : List (ℕ × Request)) → shown_from most (all_seen requests) ≡ shown_from most requests
+shown_unseen most [] = refl
+shown_unseen most (x ∷ requests) = shown_unseen (max most x.1.shown) requests
+
+shown_at_least : (most : ℕ) (requests : List (ℕ × Request)) → most ≤ shown_from most requests
+shown_at_least most [] = omega arith
+shown_at_least most (x ∷ requests) = let rest = shown_at_least (max most x.1.shown) requests in omega (arith, rest)
+
+-- no member had been shown more
+pub shown_by_all : (most : ℕ) (requests : List (ℕ × Request)) → AllByRecursion (HadAtMost (shown_from most requests)) requests
+shown_by_all most [] = tt
+shown_by_all most (x ∷ requests) = ((let rest = shown_at_least (max most x.1.shown) requests in omega (arith, rest)), shown_by_all (max most x.1.shown) requests)
+
 -- The delay
 
 pub unseen_commits : (requests : List (ℕ × Request)) → commit_requests_of (all_seen requests) ≡ commit_requests_of requests
 unseen_commits [] = refl
 unseen_commits (x ∷ requests) = ap (λ l. commit_request_of x ∷ l) (unseen_commits requests)
 
-pub asked_for : (client : ℕ) (seen first second after asked : List ControllerCall) (requests new : List (ℕ × Request)) (numbers : Look) (now bytes : ℕ) → GoesOn client seen first → IsPrefix asked first → HasLearned client first requests second
-    → new ≡ all_seen requests → bytes ≡ size_of (map item_of_request (commit_requests_of new)) → EndsWith client second (delay now bytes) (Some numbers) after → HasAskedFor client seen asked requests numbers after
-asked_for client seen first second after asked requests new numbers now bytes g p l new_is bytes_is e =
-    let before : List ControllerCall = second ++ e.between in
+pub asked_for : (client : ℕ) (seen first second third after asked : List ControllerCall) (requests new : List (ℕ × Request)) (numbers : Look) (most now bytes : ℕ) → GoesOn client seen first → IsPrefix asked first → HasLearned client first requests second
+    → new ≡ all_seen requests → most ≡ greatest_shown new → EndsWith client second (say most) None third
+    → bytes ≡ size_of (map item_of_request (commit_requests_of new)) → EndsWith client third (delay now bytes) (Some numbers) after → HasAskedFor client seen asked requests numbers after
+asked_for client seen first second third after asked requests new numbers most now bytes g p l new_is most_is says bytes_is e =
+    let greatest : most ≡ greatest_shown requests = most_is ∙ (ap greatest_shown new_is ∙ shown_unseen 0 requests) in
     let size : bytes ≡ size_of (map item_of_request (commit_requests_of requests)) = bytes_is ∙ ap (λ (cs : List CommitRequest). size_of (map item_of_request cs)) (ap commit_requests_of new_is ∙ unseen_commits requests) in
-    let on : GoesOn client second before = record {
-      between = e.between;
-      is = refl;
-      others = e.others;
-      legal = legal_front before (record { client = client; action = delay now bytes; told = Some numbers } ∷ []) (subst IsLegal e.is e.legal);
-    } in
     record {
-      before = before;
+      learned = second;
+      goes_on = goes_on client seen first second g l.goes_on;
+      leaders = prefix_trans asked first second p (l.goes_on.between, sym l.goes_on.is);
+      members = l.members;
+      said = third;
+      says = subst (λ (n : ℕ). EndsWith client second (say n) None third) greatest says;
       now = now;
-      is = e.is ∙ ap (λ (b : ℕ). before ++ record { client = client; action = delay now b; told = Some numbers } ∷ []) size;
-      goes_on = goes_on client seen second before (goes_on client seen first second g l.goes_on) on;
-      leaders = prefix_trans asked first before p (prefix_trans first second before (l.goes_on.between, sym l.goes_on.is) (e.between, refl));
-      members = members_on second before (e.between, refl) requests l.members;
-      legal = e.legal;
+      asks = subst (λ (b : ℕ). EndsWith client third (delay now b) (Some numbers) after) size e;
     }
 
 -- Looks

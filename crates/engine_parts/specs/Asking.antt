@@ -1,12 +1,12 @@
 -- How a leader's pass sees more while the leader handles its group.
-use Rattle.std.specs.Prelude.{◌≡◌, ℕ, List, [], ◌∷◌, ◌++◌, map, None, Some}
+use Rattle.std.specs.Prelude.{◌≡◌, ℕ, List, fold, map, max, None, Some}
 use Rattle.std.specs.List.{AllByRecursion}
 use mathlib.Core.List.{IsPrefix}
-use Rattle.model_base.specs.Controller.{ControllerCall, Look, delay, IsLegal}
+use Rattle.model_base.specs.Controller.{ControllerCall, Look, delay, say}
 use Rattle.model_base.specs.Grouping.{size_of}
 use Rattle.model_base.specs.Tokens.{tokens_of}
 use Rattle.engine_controller.specs.Delays.{delays_of}
-use Rattle.engine_controller.specs.Passes.{GoesOn}
+use Rattle.engine_controller.specs.Passes.{GoesOn, EndsWith}
 use Rattle.engine_rule.specs.Plans.{item_of_request}
 use Rattle.engine_parts.specs.declared.requests.Request.{Request}
 use Rattle.engine_parts.specs.Handled.{commit_requests_of, noted_in}
@@ -21,21 +21,24 @@ pub record HasLearned (client : ℕ) (seen : List ControllerCall) (requests : Li
   pub goes_on : GoesOn client seen after
   pub members : AllByRecursion (λ (x : ℕ × Request). IsPrefix (noted_in x.1.note) after) requests
 
--- The last call that the leader has seen is its own delay, with the sum of the group's sizes, with these numbers as its
--- answer. Before it comes all that the leader, the leaders before it, and the members had seen.
+-- the greatest sequence up to which a client of these requests had been shown what is published
+abbrev pub greatest_shown : List (ℕ × Request) → ℕ
+greatest_shown requests = fold (λ most (x : ℕ × Request). max most x.1.shown) 0 requests
+
+-- The leader learned all that the leaders before it and the members had seen. Then it said the greatest sequence up to
+-- which a member had been shown what is published. Then it asked for its delay, with the sum of the group's sizes, and
+-- these numbers are the answer: that is the last call that it has seen.
 pub record HasAskedFor (client : ℕ) (seen asked : List ControllerCall) (requests : List (ℕ × Request)) (numbers : Look)
     (after : List ControllerCall) : Type 0 where
-  pub before : List ControllerCall
+  pub learned : List ControllerCall
+  pub goes_on : GoesOn client seen learned
+  pub leaders : IsPrefix asked learned
+  pub members : AllByRecursion (λ (x : ℕ × Request). IsPrefix (noted_in x.1.note) learned) requests
+  pub said : List ControllerCall
+  pub says : EndsWith client learned (say (greatest_shown requests)) None said
   pub now : ℕ
-  pub is : after ≡ before ++ record {
-    client = client;
-    action = delay now (size_of (map item_of_request (commit_requests_of requests)));
-    told = Some numbers;
-  } ∷ []
-  pub goes_on : GoesOn client seen before
-  pub leaders : IsPrefix asked before
-  pub members : AllByRecursion (λ (x : ℕ × Request). IsPrefix (noted_in x.1.note) before) requests
-  pub legal : IsLegal after
+  pub asks : EndsWith client said (delay now (size_of (map item_of_request (commit_requests_of requests))))
+      (Some numbers) after
 
 -- the history went on by calls of others and looks of the client
 pub record OnlyLooks (client : ℕ) (seen after : List ControllerCall) : Type 0 where

@@ -1,5 +1,5 @@
 -- Requests that were handled, as commits, and how a leader answers.
-use Rattle.std.specs.Prelude.{◌≡◌, ℕ, ◌+◌, ◌-◌, Bool, true, false, length, IfSome, List, [], ◌∷◌, ◌++◌, map, flat_map, nat_le, if◌then◌else◌, Option, Some, None, Result, Ok, Err, ⊤}
+use Rattle.std.specs.Prelude.{◌≡◌, ◌≤◌, ℕ, ◌+◌, ◌-◌, Bool, true, false, length, IfSome, List, [], ◌∷◌, ◌++◌, map, flat_map, nat_le, if◌then◌else◌, Option, Some, None, Result, Ok, Err, ⊤}
 use Rattle.std.specs.List.{AllByRecursion}
 use mathlib.Core.List.{IsPrefix}
 use Rattle.model_base.specs.declared.write.Refusal.{Refusal}
@@ -18,6 +18,7 @@ use Rattle.line_rule.specs.declared.view.Handling.{Handling}
 use Rattle.model_base.specs.Controller as calls
 use Rattle.model_base.specs.Controller.{ControllerCall, Look, HoldUp, ShowTokens}
 use Rattle.model_base.specs.Replies.{IsLater, WasHeldUp, MetStall}
+use Rattle.model_base.specs.Tokens.{said_in}
 use Rattle.std.specs.declared.snapshot.Snapshot.{Snapshot}
 use Rattle.engine_controller.specs.declared.controller.Controller.{Controller}
 use Rattle.engine_controller.specs.Noted.{Noted}
@@ -187,14 +188,15 @@ NotesAll controller seen p = (note : Noted) × (p.note ≡ Some note) × IsNoteO
     × IsPrefix seen (seen_by_note note)
 
 -- The reply to a write has a note of the controller, which shows all that the leader had seen when it was decided
--- whether the group goes on, and so the group's delay. That delay comes after all that the request's own note shows. A
--- client that is refused because writes are held up may not wait, and its answer has the numbers of that delay, which
--- say that writes are held up.
+-- whether the group goes on, and so the group's delay. That delay comes after all that the request's own note shows, and
+-- after a call that says no less than what the client had been shown. A client that is refused because writes are held
+-- up may not wait, and its answer has the numbers of that delay, which say that writes are held up.
 pub record ShowsDelay {Time : Type 0} (controller : Controller Time) (h : Handling Request Answer) : Type 0 where
   pub noted : h.asked.since ≡ None → NotesAll controller (went_for h.reply) h.reply
   pub begins : h.asked.since ≡ None → IsPrefix (seen_for h.reply) (went_for h.reply)
   pub delayed : h.asked.since ≡ None
       → (numbers : Look) × IsDelayed (noted_in h.asked.note) (seen_for h.reply) numbers
+  pub said : h.asked.since ≡ None → h.asked.shown ≤ said_in (seen_for h.reply)
   pub held_up : (numbers : Look) → answer_in h.reply.answer ≡ held_up numbers
       → (h.asked.options.no_slowdown ≡ true) × HoldUp numbers
       × IsDelayed (noted_in h.asked.note) (seen_for h.reply) numbers

@@ -11,7 +11,7 @@ ghost use Rattle.engine_controller.specs.Looks.{look_of};
 ghost use Rattle.engine_controller.specs.Passes.{client_of, last_held_up, seen_by, seen_by_note, IsPassOf, IsNoteOf, GoesOn};
 ghost use Rattle.engine_rule.specs.Plans.{item_of_request, LetsProceed};
 ghost use Rattle.engine_parts.specs.Handled.{commit_requests_of, held_up_with, noted_in, IsNoted, IsHeldUp, IsDropped, IsNotedAs, SawNoTokens, IsTurnedAway};
-ghost use Rattle.engine_parts.specs.Asking.{HasAskedFor, HasLearned, OnlyLooks, all_seen};
+ghost use Rattle.engine_parts.specs.Asking.{HasAskedFor, HasLearned, OnlyLooks, all_seen, greatest_shown};
 
 use crate::envelope::{SealedAnswer, SealedRequest};
 use crate::numbering::{batch_of, take_first};
@@ -49,6 +49,8 @@ pub fn ask<Time: Clock, R: Wait>(
 {
     controller.learn(rt, pass, before);
     learn_all(rt, controller, pass, requests);
+    // Those who make a token call after the delay are shown what the members had been shown.
+    controller.say(rt, pass, most_shown(requests));
     let bytes = bytes_of(requests);
     controller.delay(rt, pass, clock, bytes)
 }
@@ -73,6 +75,18 @@ fn learn_all<Time: Clock, R: Wait>(
             controller.learn(rt, pass, note);
         }
     }
+}
+
+/// The greatest sequence up to which a member had seen what is published.
+fn most_shown(requests: &[(u32, SealedRequest)]) -> u64
+    ensures { result ≡ greatest_shown requests.now }
+{
+    let mut most: u64 = 0;
+    // `most` is the greatest of the members before `i`.
+    for i in 0..requests.len() {
+        most = most.max(requests[i].1.as_request().shown);
+    }
+    most
 }
 
 /// The sum of the sizes of a group's batches.

@@ -6,7 +6,7 @@
 //! - `specs/Letters`: what is in an envelope.
 //! - `specs/Items`, `Runs`: what the list of writers sees of requests and answers.
 //! - `specs/Handled`: requests that were handled, as commits of `engine_rule`.
-//! - `specs/Asking`: how a leader's view of the write controller goes on.
+//! - `specs/Asking`: how a leader's view of the write controller goes on, and what it says there.
 //! - `specs/Numbering`, `Layout`: what a leader lays out while it gives runs, and its answers.
 //! - `specs/Led`, `Staged`: the group that a leader has in hand, before and after it is logged.
 //! - `specs/ReadAnswers`: what a leader answers itself that reads the log.

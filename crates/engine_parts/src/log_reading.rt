@@ -106,6 +106,7 @@ pub fn read_phase<Log: ReadableLog>(
         options: _,
         note: _,
         since,
+        shown: _,
     } = request;
     let Some(since) = since else { unreachable!() };
     let read = read_log(alloc, path, client, since, at);

@@ -75,6 +75,7 @@ pub(crate) fn batch_of(request: SealedRequest) -> (Batch, Envelope)
         options: _,
         note: _,
         since: _,
+        shown: _,
     } = request;
     (batch, envelope)
 }
@@ -260,6 +261,7 @@ fn number_one(
         options: _,
         note: _,
         since: _,
+        shown: _,
     } = request;
     let count = u64::from(batch.count());
     let run = match next_run(last, count) {

@@ -24,6 +24,8 @@ pub struct Request {
     pub note: Option<Note>,
     /// The sequence from which on the log should be read, where nothing should be written.
     pub since: Option<u64>,
+    /// Up to which sequence the client has seen what is published; 0 where nothing should be written.
+    pub shown: u64,
     ghost made_of: { nodes ≡ reverse (new_versions batch.records) },
     ghost some: { ForNone since (1 ≤ model.count_of batch.records) },
     ghost none: { ForSome since (λ _. model.count_of batch.records ≡ 0) },

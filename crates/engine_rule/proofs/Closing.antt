@@ -11,7 +11,7 @@ use Rattle.model_base.specs.Batch.{count_of}
 use Rattle.model_base.specs.History.{Entry, IsHistory, max_sequence, last_sequence, IsBoundary}
 use Rattle.model_base.specs.Attempts.{Attempt}
 use Rattle.model_base.specs.Controller.{ControllerCall, IsLegal}
-use Rattle.model_base.specs.Tokens.{is_token, tokens_of}
+use Rattle.model_base.specs.Tokens.{is_token, tokens_of, AreHeard}
 use Rattle.model_base.specs.Recovery.{Logged}
 use Rattle.model_base.specs.Trace.{Trace, Settings}
 use Rattle.model_base.specs.Groups.{Member, Group, AreOfOthers, AreStatuses, IsStatus, items_of}
@@ -268,7 +268,7 @@ module _ (settings : Settings) (cs : List Commit) (last : ℕ) (fault : Option �
   are_lost lost None h = h
   are_lost lost (Some n) h = (h.0, h.1, lost_call n h.0 h.2)
 
-  module _ (legal : IsLegal history) (calls_of : AreCallsOf settings.clients history) (within : IsPrefix asked history) (right : AreRight (λ (batches : List Logged). kept ≡ Some batches) last calls (reads_in (answers_in reads))) where
+  module _ (legal : IsLegal history) (heard : AreHeard history) (calls_of : AreCallsOf settings.clients history) (within : IsPrefix asked history) (right : AreRight (λ (batches : List Logged). kept ≡ Some batches) last calls (reads_in (answers_in reads))) where
     abbrev led : List Led
     led = map led_of k.in_groups.groups
 
@@ -372,7 +372,7 @@ module _ (settings : Settings) (cs : List Commit) (last : ℕ) (fault : Option �
       trace,
       groups_of led,
       record {
-        is_trace = record { start = refl; opening = refl; kept = refl; entries = is_history.0; logged = are_groups; controller_calls = legal; clients = entries_clients settings.clients [] cs k.of_clients; tokens = of_tokens settings.clients history calls_of };
+        is_trace = record { start = refl; opening = refl; kept = refl; entries = is_history.0; logged = are_groups; controller_calls = legal; heard = heard; clients = entries_clients settings.clients [] cs k.of_clients; tokens = of_tokens settings.clients history calls_of };
         are_groups = groups_from_led settings.group_bytes history led (all_attempts accounts) is_led;
         parts = parts;
         are_parts = are_parts;

@@ -1,5 +1,5 @@
 -- What a client may conclude from its newest answer.
-use Rattle.std.proofs.Common.{◌≡◌, ℕ, ◌+◌, ◌<◌, ◌≤◌, Bool, true, false, cond, ◌==◌, filter, fold, map, List, [], ◌∷◌, ◌++◌, Option, Some, None, length, refl, ap, sym, ◌∙◌, subst, arith, append_assoc, append-nil}
+use Rattle.std.proofs.Common.{◌≡◌, ℕ, ◌+◌, ◌<◌, ◌≤◌, Bool, true, false, cond, ◌==◌, filter, fold, map, take, List, [], ◌∷◌, ◌++◌, Option, Some, None, length, refl, ap, sym, ◌∙◌, subst, arith, append_assoc, append-nil}
 use Rattle.std.specs.List.{AllByRecursion}
 use Rattle.std.proofs.lemmas.Grind.{flat_map-append}
 use Rattle.std.proofs.lemmas.Option.{slice_get_within}
@@ -11,7 +11,7 @@ use Rattle.model_base.specs.declared.write.WriteOptions.{WriteOptions}
 use Rattle.model_base.specs.History.{Entry, IsHistory, last_of, last_sequence, max_sequence}
 use Rattle.model_base.specs.Attempts.{is_faulted, knows_log_failed, slowed, faulted, full, fate_at}
 use Rattle.model_base.specs.Controller.{ControllerCall, HoldUp, Look, delay, look}
-use Rattle.model_base.specs.Tokens.{holds_stop, tokens_of}
+use Rattle.model_base.specs.Tokens.{holds_stop, tokens_of, shown_by_tokens, said_in}
 use Rattle.model_base.specs.Trace.{Settings}
 use Rattle.model_base.specs.Outcomes.{entries_of_client}
 use Rattle.model_base.specs.Progress.{early_refusal}
@@ -261,8 +261,8 @@ module _ (start : ℕ) (opening : Pairs) (k : ℕ) (old : List Commit) (sights :
 
   module _ (cs : List Commit) (right : AreAnswered start None cs) (is : commits_of k cs ≡ old ++ c ∷ []) where
     pub wrote : (settings : Settings) (first end : ℕ) → c.answer ≡ accepted first end → early_refusal settings.families settings.batch_bytes (holds_stop (tokens_of k known)) c.records c.options ≡ None → last_of_groups start before < first → end ≤ last_of_groups start after
-        → ShowsBatch c first s → Wrote settings was c.records c.options first end becomes
-    wrote settings first end given_is passed above reached shows =
+        → ShowsBatch c first s → shown_by_tokens (take (decided_of c) now) < first → last_of_groups start before ≤ said_in (take (place_of c + 1) now) → Wrote settings was c.records c.options first end becomes
+    wrote settings first end given_is passed above reached shows unseen said =
         let v = subst (IsAnswer (last_after_all start (at start k cs old c right is).front) (fault_after_all None (at start k cs old c right is).front) (count_of c.records)) given_is (answer start k cs old c right is).1 in
         record {
           number = refl;
@@ -273,6 +273,8 @@ module _ (start : ℕ) (opening : Pairs) (k : ℕ) (old : List Commit) (sights :
           decided = decided_of c;
           attempts = handled_as old c (accepted first end) given_is;
           within_call = within;
+          unseen = unseen;
+          said = said;
           logged = λ to_log. in_log first (shows to_log);
           read_faults = refl;
           seen = saw;

@@ -1,7 +1,7 @@
 //! What follows from the commits: for each client from its newest answer, and for all clients at the closing.
 
 ghost use mathlib.Core.List.{IsPrefix};
-ghost use Rattle.std.specs.Prelude.{◌≡◌, ◌+◌, ◌<◌, ◌≤◌, ℕ, List, [], ◌∷◌, ◌++◌, length, Option, None, Some, IfSome, true, false};
+ghost use Rattle.std.specs.Prelude.{◌≡◌, ◌+◌, ◌<◌, ◌≤◌, ℕ, List, [], ◌∷◌, ◌++◌, length, take, Option, None, Some, IfSome, true, false};
 ghost use Rattle.model_base.specs.declared.write.Refusal.TheVariants.{Incomplete, LogFault, SequenceFull};
 ghost use Rattle.model_base.specs.declared.write.WriteOptions.{WriteOptions};
 ghost use Rattle.model_base.specs.History.{max_sequence};
@@ -10,7 +10,7 @@ ghost use Rattle.model_base.specs.Controller.{ControllerCall, Look, HoldUp, IsLe
 ghost use Rattle.model_base.specs.LogContents.{GroupCall, IsLoggedBy};
 ghost use Rattle.model_base.specs.Progress.{early_refusal};
 ghost use Rattle.model_base.specs.Replies.{IsLater, MetStall};
-ghost use Rattle.model_base.specs.Tokens.{tokens_of, holds_stop};
+ghost use Rattle.model_base.specs.Tokens.{tokens_of, holds_stop, shown_by_tokens, said_in, AreHeard};
 ghost use Rattle.model_base.specs.Counts.{Rose};
 ghost use Rattle.model_base.specs.Recovery.{Logged};
 ghost use Rattle.model_base.specs.Since.{LogRead};
@@ -20,7 +20,7 @@ ghost use Rattle.model_accounts.specs.Accounts.{Account, FailsToRead, Keeps, Rea
 ghost use Rattle.model_accounts.specs.Closing.{HasOneTrace};
 ghost use Rattle.engine_controller.specs.Passes.{EndsWith};
 ghost use Rattle.engine_rule.specs.Commits.{Commit, accepted, held_up, failed, no_room, last_after_all, AreAnswered, commits_of};
-ghost use Rattle.engine_rule.specs.Asked.{place_of};
+ghost use Rattle.engine_rule.specs.Asked.{place_of, decided_of};
 ghost use Rattle.engine_rule.specs.Entries.{versions_made, ClientCall, account_before, account_with, account_told, HasSeenMore, IsFree, IsNewest, IsWithin, ShowsBatch, EndsRefused, StaysOutside, AreCallsOf};
 ghost use Rattle.engine_rule.specs.Reading.{gave, broke, lacked};
 ghost use Rattle.engine_rule.specs.LogSights.{WrittenBatch, LogSight, sights_of, logged_by, worked_in, ShowTheLog};
@@ -40,12 +40,16 @@ pub fn numbers_of_commits()
 /// got, or what more the client has seen since of what is published and of the controller. A commit that may not wait
 /// may also be refused in no group, by a look: because its client holds a stop token, or because it met a stall.
 pub fn accounts_of_the_commits()
+    // nobody who took a token or gave one back before the leader decided had been shown the batch, and by the delay calls
+    // of the controller had said all that the client had seen published
     ensures wrote { (settings : Settings) (k : ClientCall) (commits : List Commit) (c : Commit) (first group_last : ℕ)
         → IsNewest k commits c → HasSeenMore k → IsFree k → c.answer ≡ accepted first group_last
         → early_refusal settings.families settings.batch_bytes (holds_stop (tokens_of k.client k.known)) c.records
         c.options ≡ None
         → last_of k.start k.before < first → group_last ≤ last_of k.start k.after
         → (s : LogSight) → IsWithin k c s → ShowsBatch c first s
+        → shown_by_tokens (take (decided_of c) k.now) < first
+        → last_of k.start k.before ≤ said_in (take (place_of c + 1) k.now)
         → Wrote settings (account_before k) c.records c.options first group_last (account_with k c s) }
     // where writes are held up, or the log failed, nothing needs to be known of the other answers
     ensures held_up { (k : ClientCall) (c : Commit) (numbers : Look) (by moment bytes : ℕ)
@@ -100,7 +104,8 @@ pub fn closings()
     ensures closing { (settings : Settings) (kept : Option (List Logged)) (ended : ℕ) (s : Standing)
         (sights : List LogSight) (history : List ControllerCall) (accounts : List Account)
         → IsConsistent settings s → ShowTheLog (worked_in s.calls) sights
-        → AreAccountsOf settings s sights history accounts → IsLegal history → AreCallsOf settings.clients history
+        → AreAccountsOf settings s sights history accounts → IsLegal history → AreHeard history
+        → AreCallsOf settings.clients history
         → IsPrefix s.asked history → AreReadsRight settings kept ended s
         → HasOneTrace settings kept ended accounts s.last s.fault (λ made. made ≡ s.calls) }
 {}

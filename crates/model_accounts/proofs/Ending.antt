@@ -24,6 +24,8 @@ transcript_closes settings kept trace parts fault client commands calls a is_his
   end = run.end;
   is_transcript = transcript_with kept settings trace client commands calls run.end (run.is_transcript trace is_history part.seen);
   accepted = ap (λ n. entries_of_client n trace.entries) (sym run.number) ∙ (part.accepted ∙ run.mine);
+  shown = run.shown;
+  had = run.had;
   tokens = ap (λ n. tokens_of n trace.controller_calls) (sym run.number) ∙ (part.tokens ∙ run.asked);
   commits = run.attempts;
   statuses = part.statuses;

@@ -1,6 +1,6 @@
 -- Each call, by what it says of its client, is a step of the client, in each trace of which the client may have seen
 -- what it has seen.
-use Rattle.std.proofs.Common.{◌≡◌, ◌⊎◌, inl, inr, ℕ, ◌+◌, ◌≤◌, Bool, true, false, if◌then◌else◌, Option, Some, None, List, [], ◌∷◌, ◌++◌, length, map, max, take, MatchOption, refl, ap, sym, ◌∙◌, subst, arith, append-nil}
+use Rattle.std.proofs.Common.{◌≡◌, ◌⊎◌, inl, inr, ℕ, ◌+◌, ◌≤◌, ◌<◌, Bool, true, false, if◌then◌else◌, Option, Some, None, List, [], ◌∷◌, ◌++◌, length, map, max, take, MatchOption, refl, ap, sym, ◌∙◌, subst, arith, append-nil}
 use Rattle.std.proofs.lemmas.Option.{slice_get_cases}
 use Rattle.std.proofs.Math.Seq.{take-length}
 use Rattle.model_base.specs.declared.write.WriteOptions.{WriteOptions}
@@ -12,10 +12,11 @@ use Rattle.model_base.specs.Map.{Pairs, Rows, value_at, rows_within}
 use Rattle.model_base.specs.History.{Entry}
 use Rattle.model_base.specs.Controller as controller
 use Rattle.model_base.specs.Controller.{ControllerCall, Action}
-use Rattle.model_base.specs.Tokens.{tokens_of, holds_stop, holds_slow}
+use Rattle.model_base.specs.Tokens.{tokens_of, holds_stop, holds_slow, said_in}
 use Rattle.model_base.specs.Trace.{Trace, Settings}
 use Rattle.model_base.specs.Attempts.{Attempt}
 use Rattle.std.specs.List.{AllByRecursion}
+use mathlib.Core.List.{IsPrefix}
 use Rattle.std.specs.Option.{option_map_or}
 use Rattle.model_base.specs.Outcomes.{read_fault_of}
 use Rattle.model_base.specs.Progress.{Progress, families_in, first_missing, early_refusal}
@@ -23,7 +24,7 @@ use Rattle.model_base.specs.Replies.{IsAttempted, IsLogRead, ReadsAt, Gets, Gets
 use Rattle.model_base.specs.Calls.{Command, add, clear, commit, get, many, scan, updates, stop, unstop, slow, unslow, Reply, quiet, accepted, refused, found, found_each, rows, updates_found, read_failed, done, held, not_held}
 use Rattle.model_base.specs.LogContents.{IsLoggedBy}
 use Rattle.model_base.proofs.Prefixes.{prefix_length, prefix_take}
-use Rattle.model_base.proofs.Runs.{later_in, refuse_in}
+use Rattle.model_base.proofs.Runs.{later_in, refuse_in, said_same, unseen_in}
 use Rattle.model_accounts.specs.Sights.{WasLogged, last_seen, Sees, Saw, InEachTrace}
 use Rattle.model_accounts.specs.Accounts.{Account, progress_at, KnowsOwnTokens, Keeps, IsLogged, Wrote, IsRefused, Refuses, Reads, ReadsLog, FailsToRead, Asks}
 use Rattle.model_accounts.specs.ClientRuns.{Goes, Lacks}
@@ -82,6 +83,10 @@ at_end P (y ∷ xs) x all = at_end P xs x all.1
 logged_by : (v w : Account) (records : List Record) (sync : Bool) (first : ℕ) → IsLogged v w records sync first → (trace : Trace) → Saw w.seen trace → IsLoggedBy trace.log_calls v.seen.logged w.seen.logged first records sync
 logged_by v w records sync first is trace saw = at_end (WasLogged trace.log_calls) v.seen.batches _ (subst (AllByRecursion (WasLogged trace.log_calls)) is saw.batches)
 
+-- calls that say all that was seen say no less than what the client was shown
+said_at_least_shown : (shown : ℕ) (xs ys : List ControllerCall) → IsPrefix xs ys → (place seen : ℕ) → shown ≤ seen → place < length xs → seen ≤ said_in (take (place + 1) xs) → shown ≤ said_in (take (place + 1) ys)
+said_at_least_shown shown xs ys p place seen low within said = said_same xs ys p place shown within (omega (arith, low, said))
+
 module _ (settings : Settings) (v : Account) (pending : List Record) where
   pub goes_add : (r : Record) → KnowsOwnTokens v → Goes settings v pending (add r) quiet v (pending ++ r ∷ [])
   goes_add r tokens = goes_by settings v pending (add r) quiet v (pending ++ r ∷ []) refl (sym (append-nil v.read_faults)) (sees_self v.seen) tokens (λ shown low. (shown, low, λ trace is_history saw. refl))
@@ -110,6 +115,8 @@ module _ (settings : Settings) (v : Account) (pending : List Record) where
           place = wrote.place;
           decided = wrote.decided;
           asked = wrote.within_call;
+          said = said_at_least_shown shown w.seen.controller_calls trace.controller_calls saw.controller_calls wrote.place (last_seen v.seen) low (let seen = wrote.within_call.1 in let known = wrote.within_call.2 in omega (arith, seen, known)) wrote.said;
+          unseen = unseen_in w.seen.controller_calls trace.controller_calls saw.controller_calls wrote.decided first wrote.within_call.2 wrote.unseen;
           logged = λ to_log. logged_by v w pending how.sync first (wrote.logged to_log) trace saw;
           after = stands_by w [] (max shown last) _ _ _ wrote.mine wrote.asked wrote.attempts;
         }),
@@ -202,46 +209,63 @@ module _ (settings : Settings) (v : Account) (pending : List Record) where
   pub goes_scan_refused : (named : ℕ) (lo hi : List ℕ) (family : ℕ) (w : Account) → first_missing settings.families (named ∷ []) ≡ Some family → Keeps v w → Goes settings v pending (scan named lo hi) (refused (NoFamily family)) w pending
   goes_scan_refused named lo hi family w missing k = read_refused (scan named lo hi) (named ∷ []) family w (λ trace p q. Scans trace p named lo hi (refused (NoFamily family)) q) missing k (λ trace p q s. s)
 
-  -- a call of the controller that was answered `done`
-  asks_done : (a : Action) (w : Account) → Asks v a w → (shown : ℕ) → InEachTrace w.seen (λ trace. IsDone trace v.number (progress_at v pending shown) a (progress_at w pending shown))
-  asks_done a w k shown trace is_history saw = record {
-    place = k.place;
-    is_later = later_in w.seen.controller_calls trace.controller_calls saw.controller_calls (length v.seen.controller_calls) k.place _ k.is_later;
-    known = elim (slice_get_cases w.seen.controller_calls k.place).1 [
-      | inl there ↦ there.1
-      | inr gone ↦ absurd (cc (k.is_later.there, gone.1))
-    ];
-    after = stands_by w pending shown _ _ _ k.mine k.asked k.attempts;
-  }
+  -- a call of the controller that was answered `done`; then the client has heard up to which sequence it is shown what is
+  -- published
+  asks_done : (a : Action) (w : Account) (k : Asks v a w) → (shown : ℕ) → shown ≤ last_seen v.seen → InEachTrace w.seen (λ trace. IsDone trace v.number (progress_at v pending shown) a (progress_at w pending (max shown k.most)))
+  asks_done a w k shown low trace is_history saw =
+      let within : k.heard_at < length w.seen.controller_calls = elim (slice_get_cases w.seen.controller_calls k.heard_at).1 [
+        | inl there ↦ there.1
+        | inr gone ↦ absurd (cc (k.hears.there, gone.1))
+      ] in
+      let later = k.hears.later in let had = k.had in record {
+        place = k.place;
+        is_later = later_in w.seen.controller_calls trace.controller_calls saw.controller_calls (length v.seen.controller_calls) k.place _ k.is_later;
+        had = omega (arith, low, had);
+        said = said_at_least_shown shown w.seen.controller_calls trace.controller_calls saw.controller_calls k.place (last_seen v.seen) low (omega (arith, later, within)) k.said;
+        heard_at = k.heard_at;
+        most = k.most;
+        hears = later_in w.seen.controller_calls trace.controller_calls saw.controller_calls (k.place + 1) k.heard_at _ k.hears;
+        known = within;
+        after = stands_by w pending (max shown k.most) _ _ _ k.mine k.asked k.attempts;
+      }
 
-  -- the client called the controller, or changed nothing, and was shown no more
+  -- the client called the controller
+  done_on : (c : Command) (a : Action) (w : Account) → read_fault_of done ≡ [] → (k : Asks v a w)
+      → ((trace : Trace) (p q : Progress) → IsDone trace v.number p a q → p.asked ≡ v.asked → Replies settings trace v.number p c done q) → Goes settings v pending c done w pending
+  done_on c a w none k right = goes_by settings v pending c done w pending k.number (none_more v w (read_fault_of done) none k.read_faults) k.seen k.tokens (λ shown low. (
+    max shown k.most,
+    (let rises = last_rises v.seen w.seen k.seen in let reached = k.reached in omega (arith, rises, low, reached)),
+    λ trace is_history saw. right trace (progress_at v pending shown) (progress_at w pending (max shown k.most)) (asks_done a w k shown low trace is_history saw) refl,
+  ))
+
+  -- the client changed nothing, and was shown no more
   asked_on : (c : Command) (r : Reply) (w : Account) → w.number ≡ v.number → w.read_faults ≡ v.read_faults ++ read_fault_of r → Sees v.seen w.seen → KnowsOwnTokens w
-      → ((shown : ℕ) → InEachTrace w.seen (λ trace. Replies settings trace v.number (progress_at v pending shown) c r (progress_at w pending shown))) → Goes settings v pending c r w pending
-  asked_on c r w number faults seen tokens right = goes_by settings v pending c r w pending number faults seen tokens (λ shown low. (shown, (let rises = last_rises v.seen w.seen seen in omega (arith, rises, low)), right shown))
+      → ((shown : ℕ) → shown ≤ last_seen v.seen → InEachTrace w.seen (λ trace. Replies settings trace v.number (progress_at v pending shown) c r (progress_at w pending shown))) → Goes settings v pending c r w pending
+  asked_on c r w number faults seen tokens right = goes_by settings v pending c r w pending number faults seen tokens (λ shown low. (shown, (let rises = last_rises v.seen w.seen seen in omega (arith, rises, low)), right shown low))
 
-  pub goes_stop : (w : Account) → holds_stop v.asked ≡ false → Asks v controller.stop w → Goes settings v pending stop done w pending
-  goes_stop w h k = asked_on stop done w k.number (no_more v w k.read_faults) k.seen k.tokens (λ shown trace is_history saw. (h, asks_done controller.stop w k shown trace is_history saw))
+  pub goes_stop : (w : Account) (shown : ℕ) → holds_stop v.asked ≡ false → Asks v (controller.stop shown) w → Goes settings v pending stop done w pending
+  goes_stop w said h k = done_on stop (controller.stop said) w refl k (λ trace p q is same. (subst (λ (l : List Action). holds_stop l ≡ false) (sym same) h, said, is))
 
   pub goes_stop_held : (w : Account) → holds_stop v.asked ≡ true → Keeps v w → Goes settings v pending stop held w pending
-  goes_stop_held w h k = asked_on stop held w k.number (no_more v w k.read_faults) k.seen k.tokens (λ shown trace is_history saw. (h, stays v w k pending shown))
+  goes_stop_held w h k = asked_on stop held w k.number (no_more v w k.read_faults) k.seen k.tokens (λ shown low trace is_history saw. (h, stays v w k pending shown))
 
-  pub goes_unstop : (w : Account) → holds_stop v.asked ≡ true → Asks v controller.unstop w → Goes settings v pending unstop done w pending
-  goes_unstop w h k = asked_on unstop done w k.number (no_more v w k.read_faults) k.seen k.tokens (λ shown trace is_history saw. (h, asks_done controller.unstop w k shown trace is_history saw))
+  pub goes_unstop : (w : Account) (shown : ℕ) → holds_stop v.asked ≡ true → Asks v (controller.unstop shown) w → Goes settings v pending unstop done w pending
+  goes_unstop w said h k = done_on unstop (controller.unstop said) w refl k (λ trace p q is same. (subst (λ (l : List Action). holds_stop l ≡ true) (sym same) h, said, is))
 
   pub goes_unstop_not_held : (w : Account) → holds_stop v.asked ≡ false → Keeps v w → Goes settings v pending unstop not_held w pending
-  goes_unstop_not_held w h k = asked_on unstop not_held w k.number (no_more v w k.read_faults) k.seen k.tokens (λ shown trace is_history saw. (h, stays v w k pending shown))
+  goes_unstop_not_held w h k = asked_on unstop not_held w k.number (no_more v w k.read_faults) k.seen k.tokens (λ shown low trace is_history saw. (h, stays v w k pending shown))
 
-  pub goes_slow : (rate : ℕ) (w : Account) → holds_slow v.asked ≡ false → Asks v (controller.slow rate) w → Goes settings v pending (slow rate) done w pending
-  goes_slow rate w h k = asked_on (slow rate) done w k.number (no_more v w k.read_faults) k.seen k.tokens (λ shown trace is_history saw. (h, asks_done (controller.slow rate) w k shown trace is_history saw))
+  pub goes_slow : (rate : ℕ) (w : Account) (shown : ℕ) → holds_slow v.asked ≡ false → Asks v (controller.slow rate shown) w → Goes settings v pending (slow rate) done w pending
+  goes_slow rate w said h k = done_on (slow rate) (controller.slow rate said) w refl k (λ trace p q is same. (subst (λ (l : List Action). holds_slow l ≡ false) (sym same) h, said, is))
 
   pub goes_slow_held : (rate : ℕ) (w : Account) → holds_slow v.asked ≡ true → Keeps v w → Goes settings v pending (slow rate) held w pending
-  goes_slow_held rate w h k = asked_on (slow rate) held w k.number (no_more v w k.read_faults) k.seen k.tokens (λ shown trace is_history saw. (h, stays v w k pending shown))
+  goes_slow_held rate w h k = asked_on (slow rate) held w k.number (no_more v w k.read_faults) k.seen k.tokens (λ shown low trace is_history saw. (h, stays v w k pending shown))
 
-  pub goes_unslow : (w : Account) → holds_slow v.asked ≡ true → Asks v controller.unslow w → Goes settings v pending unslow done w pending
-  goes_unslow w h k = asked_on unslow done w k.number (no_more v w k.read_faults) k.seen k.tokens (λ shown trace is_history saw. (h, asks_done controller.unslow w k shown trace is_history saw))
+  pub goes_unslow : (w : Account) (shown : ℕ) → holds_slow v.asked ≡ true → Asks v (controller.unslow shown) w → Goes settings v pending unslow done w pending
+  goes_unslow w said h k = done_on unslow (controller.unslow said) w refl k (λ trace p q is same. (subst (λ (l : List Action). holds_slow l ≡ true) (sym same) h, said, is))
 
   pub goes_unslow_not_held : (w : Account) → holds_slow v.asked ≡ false → Keeps v w → Goes settings v pending unslow not_held w pending
-  goes_unslow_not_held w h k = asked_on unslow not_held w k.number (no_more v w k.read_faults) k.seen k.tokens (λ shown trace is_history saw. (h, stays v w k pending shown))
+  goes_unslow_not_held w h k = asked_on unslow not_held w k.number (no_more v w k.read_faults) k.seen k.tokens (λ shown low trace is_history saw. (h, stays v w k pending shown))
 
   -- A read of the log
 
@@ -266,10 +290,10 @@ module _ (settings : Settings) (v : Account) (pending : List Record) where
 
   pub goes_read_failed : (s count : ℕ) (w : Account) → holds_stop v.asked ≡ false → FailsToRead settings v count w → Goes settings v pending (updates s) (read_failed count) w pending
   goes_read_failed s count w free k =
-      asked_on (updates s) (read_failed count) w k.number k.read_faults k.seen k.tokens (λ shown trace is_history saw. (free, k.rose, stands_by w pending shown _ _ _ k.mine k.asked k.attempts))
+      asked_on (updates s) (read_failed count) w k.number k.read_faults k.seen k.tokens (λ shown low trace is_history saw. (free, k.rose, stands_by w pending shown _ _ _ k.mine k.asked k.attempts))
 
   pub goes_updates_refused : (s : ℕ) (w : Account) → holds_stop v.asked ≡ true → Keeps v w → Goes settings v pending (updates s) (refused SelfStop) w pending
-  goes_updates_refused s w h k = asked_on (updates s) (refused SelfStop) w k.number (no_more v w k.read_faults) k.seen k.tokens (λ shown trace is_history saw. (refl, h, stays v w k pending shown))
+  goes_updates_refused s w h k = asked_on (updates s) (refused SelfStop) w k.number (no_more v w k.read_faults) k.seen k.tokens (λ shown low trace is_history saw. (refl, h, stays v w k pending shown))
 
   pub lacks_updates : (s : ℕ) (w : Account) → holds_stop v.asked ≡ false → Keeps v w → Lacks settings v pending (updates s) w
   lacks_updates s w free k = record { keeps = k; may = λ shown. free }

@@ -7,6 +7,7 @@ use Rattle.model_base.specs.History.{Entry}
 use Rattle.model_base.specs.Attempts.{Attempt, succeeded, item_of}
 use Rattle.model_base.specs.Groups.{IsCommit, Holds, AreGroups}
 use Rattle.model_base.specs.Calls.{Command, add, commit, Call, quiet, accepted}
+use Rattle.model_base.proofs.Shown.{heard_without_tokens}
 use Rattle.table_rule.specs.Histories.{made_by}
 use Rattle.model_accounts.specs.Versions.{versions_of_entry}
 use Rattle.model_accounts.specs.Sights.{WasLogged, Saw}
@@ -57,6 +58,8 @@ wrote = record {
   place = 0;
   decided = 1;
   within_call = (lit≤ tt, lit≤ tt, lit≤ tt);
+  unseen = lit≤ tt;
+  said = lit≤ tt;
   logged = λ to_log. refl;
   tokens = refl;
   some = lit≤ tt;
@@ -70,7 +73,7 @@ wrote = record {
 }
 
 gives_back : GivesBack after after
-gives_back = record { number = refl; mine = refl; ends = refl; asked = refl; attempts = refl; read_faults = refl; seen = sees_self after.seen; tokens = refl }
+gives_back = record { number = refl; mine = refl; ends = refl; shown = 2; had = lit≤ tt; asked = refl; attempts = refl; read_faults = refl; seen = sees_self after.seen; tokens = refl }
 
 has_run_once : HasRun settings 1 commands calls after
 has_run_once =
@@ -140,6 +143,7 @@ closing = record {
     entries = (record { counted = refl; some = lit≤ tt; first = refl; fits = lit≤ tt }, tt);
     logged = record { cut = refl; none_empty = (lit≤ tt, tt); runs = (tt, tt) };
     controller_calls = (refl, tt);
+    heard = heard_without_tokens _ (refl, tt);
     clients = ((lit≤ tt, lit≤ tt), tt);
     tokens = ((λ token. absurd (cc token)), tt);
   };

@@ -8,6 +8,7 @@ use Rattle.model_base.specs.Batch.{size_of_batch}
 use Rattle.model_base.specs.History.{Entry}
 use Rattle.model_base.specs.Attempts.{Attempt, succeeded, item_of}
 use Rattle.model_base.specs.Groups.{Group, HaveOwnPlaces, Holds, IsAskedFor, IsCommit, AreGroups}
+use Rattle.model_base.proofs.Shown.{heard_without_tokens}
 use Rattle.model_accounts.specs.Sights.{Saw}
 use Rattle.model_accounts.specs.Accounts.{Account}
 use Rattle.model_runs.specs.Parts.{name_of, names_made}
@@ -121,6 +122,7 @@ closing = record {
     entries = (record { counted = refl; some = lit≤ tt; first = refl; fits = lit≤ tt }, (record { counted = refl; some = lit≤ tt; first = refl; fits = lit≤ tt }, tt));
     logged = record { cut = refl; none_empty = (lit≤ tt, tt); runs = ((record { counted = refl; some = lit≤ tt; first = refl; fits = lit≤ tt }, tt), tt) };
     controller_calls = (refl, tt);
+    heard = heard_without_tokens _ (refl, tt);
     clients = ((lit≤ tt, lit≤ tt), ((lit≤ tt, lit≤ tt), tt));
     tokens = ((λ token. absurd (cc token)), tt);
   };

@@ -10,7 +10,7 @@ use Rattle.model_base.specs.Outcomes.{read_fault_of, read_faults_of}
 use Rattle.model_base.proofs.Runs.{run_more}
 use Rattle.model_accounts.specs.Accounts.{Account, newcomer, progress_at, GivesBack}
 use Rattle.model_accounts.specs.ClientRuns.{Goes, Lacks, Went, HasRun}
-use Rattle.model_accounts.proofs.Seeing.{saw_earlier, sees_on}
+use Rattle.model_accounts.proofs.Seeing.{saw_earlier, sees_on, last_rises}
 
 pub went_none : (settings : Settings) (start : ℕ) (opening : Pairs) (number : ℕ) → Went settings [] (newcomer start opening number) []
 went_none settings start opening number = record { seen_up_to = 0; shown = omega arith; read_faults = refl; tokens = refl; run = λ trace is_history saw. refl }
@@ -43,6 +43,8 @@ has_run settings calls v pending w went back = record {
   is_transcript = λ trace is_history saw. whole refl (went.run trace is_history (saw_earlier v.seen w.seen back.seen trace saw));
   number = back.number;
   mine = back.mine;
+  shown = back.shown;
+  had = (let low = went.shown in let had = back.had in omega (arith, low, had));
   asked = back.asked;
   attempts = back.attempts;
   read_faults = back.read_faults ∙ went.read_faults;
@@ -58,6 +60,8 @@ has_run_short settings calls v pending last rest u w went lacks back = record {
       (went.run trace is_history (saw_earlier v.seen w.seen (sees_on v.seen u.seen w.seen lacks.keeps.seen back.seen) trace saw)) (lacks.may went.seen_up_to);
   number = back.number ∙ lacks.keeps.number;
   mine = back.mine ∙ lacks.keeps.mine;
+  shown = back.shown;
+  had = (let low = went.shown in let rises = last_rises v.seen u.seen lacks.keeps.seen in let had = back.had in omega (arith, low, rises, had));
   asked = rw (← lacks.keeps.asked) back.asked;
   attempts = back.attempts ∙ lacks.keeps.attempts;
   read_faults = back.read_faults ∙ (lacks.keeps.read_faults ∙ (went.read_faults ∙ (sym (append-nil (read_faults_of calls)) ∙ sym (one_more calls (record { command = last; reply = no_memory })))));

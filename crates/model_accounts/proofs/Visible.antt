@@ -103,22 +103,22 @@ module _ (p : Progress) (q : Progress) where
   sees_updates settings trace n _ s = absurd s
 
   stops : (trace : Trace) (client : ℕ) (r : Reply) → Stops trace client p r q → Moves p stop r q
-  stops trace client done s = same_both p _ _ q refl (ap (λ (x : Progress). x.pending) s.1.after) (ap (λ (x : Progress). x.attempts) s.1.after)
+  stops trace client done s = same_both p _ _ q refl (ap (λ (x : Progress). x.pending) s.2.after) (ap (λ (x : Progress). x.attempts) s.2.after)
   stops trace client held s = same_both p _ _ q refl (ap (λ (x : Progress). x.pending) s.1) (ap (λ (x : Progress). x.attempts) s.1)
   stops trace client _ s = absurd s
 
   unstops : (trace : Trace) (client : ℕ) (r : Reply) → Unstops trace client p r q → Moves p unstop r q
-  unstops trace client done s = same_both p _ _ q refl (ap (λ (x : Progress). x.pending) s.1.after) (ap (λ (x : Progress). x.attempts) s.1.after)
+  unstops trace client done s = same_both p _ _ q refl (ap (λ (x : Progress). x.pending) s.2.after) (ap (λ (x : Progress). x.attempts) s.2.after)
   unstops trace client not_held s = same_both p _ _ q refl (ap (λ (x : Progress). x.pending) s.1) (ap (λ (x : Progress). x.attempts) s.1)
   unstops trace client _ s = absurd s
 
   slows : (trace : Trace) (client rate : ℕ) (r : Reply) → Slows trace client p rate r q → Moves p (slow rate) r q
-  slows trace client rate done s = same_both p _ _ q refl (ap (λ (x : Progress). x.pending) s.1.after) (ap (λ (x : Progress). x.attempts) s.1.after)
+  slows trace client rate done s = same_both p _ _ q refl (ap (λ (x : Progress). x.pending) s.2.after) (ap (λ (x : Progress). x.attempts) s.2.after)
   slows trace client rate held s = same_both p _ _ q refl (ap (λ (x : Progress). x.pending) s.1) (ap (λ (x : Progress). x.attempts) s.1)
   slows trace client rate _ s = absurd s
 
   unslows : (trace : Trace) (client : ℕ) (r : Reply) → Unslows trace client p r q → Moves p unslow r q
-  unslows trace client done s = same_both p _ _ q refl (ap (λ (x : Progress). x.pending) s.1.after) (ap (λ (x : Progress). x.attempts) s.1.after)
+  unslows trace client done s = same_both p _ _ q refl (ap (λ (x : Progress). x.pending) s.2.after) (ap (λ (x : Progress). x.attempts) s.2.after)
   unslows trace client not_held s = same_both p _ _ q refl (ap (λ (x : Progress). x.pending) s.1) (ap (λ (x : Progress). x.attempts) s.1)
   unslows trace client _ s = absurd s
 

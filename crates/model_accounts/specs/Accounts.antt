@@ -1,13 +1,13 @@
 -- What the calls of a write path say about one client.
-use Rattle.std.specs.Prelude.{◌≡◌, ◌⊎◌, ℕ, ◌+◌, ◌<◌, ◌≤◌, Bool, false, List, [], ◌∷◌, ◌++◌, length, Option, Some, None, IfSome, MatchOption}
+use Rattle.std.specs.Prelude.{◌≡◌, ◌⊎◌, ℕ, ◌+◌, ◌<◌, ◌≤◌, Bool, false, List, [], ◌∷◌, ◌++◌, length, take, Option, Some, None, IfSome, MatchOption}
 use Rattle.model_base.specs.declared.write.WriteOptions.{WriteOptions}
 use Rattle.model_base.specs.declared.write.Refusal.{Refusal}
 use Rattle.model_base.specs.declared.write.Refusal.TheVariants.{NoMemory}
 use Rattle.model_base.specs.Batch.{Record, count_of}
 use Rattle.model_base.specs.History.{Entry}
 use Rattle.model_base.specs.Map.{Pairs}
-use Rattle.model_base.specs.Controller.{Action}
-use Rattle.model_base.specs.Tokens.{tokens_of, holds_stop, given_back}
+use Rattle.model_base.specs.Controller.{Action, hear}
+use Rattle.model_base.specs.Tokens.{tokens_of, holds_stop, given_back, shown_by_token, shown_by_tokens, said_in}
 use Rattle.model_base.specs.Counts.{Rose}
 use Rattle.model_base.specs.Trace.{Settings}
 use Rattle.model_base.specs.Attempts.{Attempt, succeeded, Fate, fate_at, with_attempt, knows_log_failed}
@@ -81,8 +81,10 @@ IsLogged v w records sync first = w.seen.batches ≡ v.seen.batches
 -- A batch was accepted: one entry more. It had passed the early checks, and the client held no stop token and didn't
 -- know of a fault of the log. Its run is above all that the client had seen published, and above each sequence after
 -- which there was no room for an earlier batch of this client. The delay of its group is within the call, and so is all
--- by which its leader decided that the group goes on. A batch that goes into the log was written by a call of the log
--- writer that has returned. The client has now seen the batch's group published, up to the group's end.
+-- by which its leader decided that the group goes on. Nobody who took a token or gave one back before the leader decided
+-- had been shown the batch. By the delay, calls of the controller had said all that the client had seen published
+-- before. A batch that goes into the log was written by a call of the log writer that has returned. The client has now
+-- seen the batch's group published, up to the group's end.
 pub record Wrote (settings : Settings) (v : Account) (records : List Record) (how : WriteOptions) (first group_last : ℕ)
     (w : Account) : Type 0 where
   pub number : w.number ≡ v.number
@@ -93,6 +95,8 @@ pub record Wrote (settings : Settings) (v : Account) (records : List Record) (ho
   pub decided : ℕ
   pub attempts : w.attempts ≡ with_attempt v.attempts records how (fate_at place decided succeeded)
   pub within_call : IsWithinCall (length v.seen.controller_calls) (length w.seen.controller_calls) place decided
+  pub unseen : shown_by_tokens (take decided w.seen.controller_calls) < first
+  pub said : last_seen v.seen ≤ said_in (take (place + 1) w.seen.controller_calls)
   pub logged : how.no_log ≡ false → IsLogged v w records how.sync first
   pub read_faults : w.read_faults ≡ v.read_faults
   pub seen : Sees v.seen w.seen
@@ -167,7 +171,9 @@ pub record FailsToRead (settings : Settings) (v : Account) (count : ℕ) (w : Ac
   pub tokens : KnowsOwnTokens w
   pub rose : Rose settings.opened count
 
--- the client made this call of the controller, after all that it had seen
+-- The client made this call of the controller, after all that it had seen. The call's number is no less than the last
+-- sequence that it had seen published, and calls up to this one say that sequence. Then the client heard a sequence, up
+-- to which it has now seen what is published.
 pub record Asks (v : Account) (action : Action) (w : Account) : Type 0 where
   pub number : w.number ≡ v.number
   pub mine : w.mine ≡ v.mine
@@ -180,13 +186,23 @@ pub record Asks (v : Account) (action : Action) (w : Account) : Type 0 where
   pub place : ℕ
   pub is_later : IsLater w.seen.controller_calls (length v.seen.controller_calls) place
       (record { client = v.number; action = action; told = None })
+  pub had : last_seen v.seen ≤ shown_by_token action
+  pub said : last_seen v.seen ≤ said_in (take (place + 1) w.seen.controller_calls)
+  pub heard_at : ℕ
+  pub most : ℕ
+  pub hears : IsLater w.seen.controller_calls (place + 1) heard_at
+      (record { client = v.number; action = hear most; told = None })
+  pub reached : most ≤ last_seen w.seen
 
--- the client gave back the tokens that it held
+-- The client gave back the tokens that it held. These calls' number is no less than the last sequence that it had seen
+-- published.
 pub record GivesBack (v w : Account) : Type 0 where
   pub number : w.number ≡ v.number
   pub mine : w.mine ≡ v.mine
   pub ends : w.ends ≡ v.ends
-  pub asked : w.asked ≡ v.asked ++ given_back v.asked
+  pub shown : ℕ
+  pub had : last_seen v.seen ≤ shown
+  pub asked : w.asked ≡ v.asked ++ given_back v.asked shown
   pub attempts : w.attempts ≡ v.attempts
   pub read_faults : w.read_faults ≡ v.read_faults
   pub seen : Sees v.seen w.seen

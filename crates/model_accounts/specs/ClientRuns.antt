@@ -42,14 +42,17 @@ pub record Went (settings : Settings) (calls : List Call) (a : Account) (pending
   pub run : InEachTrace a.seen (λ trace. Run settings trace a.number fresh calls (progress_at a pending seen_up_to))
 
 -- All calls of a client, as far as it alone can tell: they are a transcript in each trace of which it may have seen
--- what it has seen, and at its end the client has done what its account says
+-- what it has seen, and at its end the client has done what its account says. As it gave its tokens back, it had been
+-- shown no more than these calls say.
 pub record HasRun (settings : Settings) (client : ℕ) (commands : List Command) (calls : List Call)
     (a : Account) : Type 0 where
   pub end : Progress
   pub is_transcript : InEachTrace a.seen (λ trace. IsTranscript settings trace client commands calls end)
   pub number : a.number ≡ client
   pub mine : a.mine ≡ end.mine
-  pub asked : a.asked ≡ end.asked ++ given_back end.asked
+  pub shown : ℕ
+  pub had : end.seen_up_to ≤ shown
+  pub asked : a.asked ≡ end.asked ++ given_back end.asked shown
   pub attempts : a.attempts ≡ end.attempts
   pub read_faults : a.read_faults ≡ read_faults_of calls
 

@@ -87,25 +87,28 @@ pub fn reads_of_the_log_are_steps()
 
 /// A stop token is taken or given back, or is already held, or isn't held.
 pub fn stops_are_steps()
-    ensures taken { (settings : Settings) (v : Account) (pending : List Record) (w : Account)
-        → holds_stop v.asked ≡ false → Asks v controller.stop w → Goes settings v pending stop done w pending }
+    ensures taken { (settings : Settings) (v : Account) (pending : List Record) (w : Account) (shown : ℕ)
+        → holds_stop v.asked ≡ false → Asks v (controller.stop shown) w
+        → Goes settings v pending stop done w pending }
     ensures held { (settings : Settings) (v : Account) (pending : List Record) (w : Account)
         → holds_stop v.asked ≡ true → Keeps v w → Goes settings v pending stop held w pending }
-    ensures given_back { (settings : Settings) (v : Account) (pending : List Record) (w : Account)
-        → holds_stop v.asked ≡ true → Asks v controller.unstop w → Goes settings v pending unstop done w pending }
+    ensures given_back { (settings : Settings) (v : Account) (pending : List Record) (w : Account) (shown : ℕ)
+        → holds_stop v.asked ≡ true → Asks v (controller.unstop shown) w
+        → Goes settings v pending unstop done w pending }
     ensures not_held { (settings : Settings) (v : Account) (pending : List Record) (w : Account)
         → holds_stop v.asked ≡ false → Keeps v w → Goes settings v pending unstop not_held w pending }
 {}
 
 /// The same for a slow token.
 pub fn slowdowns_are_steps()
-    ensures taken { (settings : Settings) (v : Account) (pending : List Record) (rate : ℕ) (w : Account)
-        → holds_slow v.asked ≡ false → Asks v (controller.slow rate) w
+    ensures taken { (settings : Settings) (v : Account) (pending : List Record) (rate : ℕ) (w : Account) (shown : ℕ)
+        → holds_slow v.asked ≡ false → Asks v (controller.slow rate shown) w
         → Goes settings v pending (slow rate) done w pending }
     ensures held { (settings : Settings) (v : Account) (pending : List Record) (rate : ℕ) (w : Account)
         → holds_slow v.asked ≡ true → Keeps v w → Goes settings v pending (slow rate) held w pending }
-    ensures given_back { (settings : Settings) (v : Account) (pending : List Record) (w : Account)
-        → holds_slow v.asked ≡ true → Asks v controller.unslow w → Goes settings v pending unslow done w pending }
+    ensures given_back { (settings : Settings) (v : Account) (pending : List Record) (w : Account) (shown : ℕ)
+        → holds_slow v.asked ≡ true → Asks v (controller.unslow shown) w
+        → Goes settings v pending unslow done w pending }
     ensures not_held { (settings : Settings) (v : Account) (pending : List Record) (w : Account)
         → holds_slow v.asked ≡ false → Keeps v w → Goes settings v pending unslow not_held w pending }
 {}

@@ -1,5 +1,5 @@
 -- Runs of calls: what holds in a trace holds in a longer one; and one more call.
-use Rattle.std.proofs.Common.{IfSome, ◌≡◌, ℕ, ◌≤◌, Bool, true, false, Option, Some, None, List, [], ◌∷◌, ◌++◌, map, take, MatchOption, refl, ap, sym, ◌∙◌, subst, arith, append_assoc}
+use Rattle.std.proofs.Common.{IfSome, ◌≡◌, ℕ, ◌≤◌, ◌<◌, ◌+◌, length, Bool, true, false, Option, Some, None, List, [], ◌∷◌, ◌++◌, map, take, MatchOption, refl, ap, sym, ◌∙◌, subst, arith, append_assoc}
 use mathlib.Core.List.{IsPrefix}
 use Rattle.model_base.specs.declared.write.WriteOptions.{WriteOptions}
 use Rattle.model_base.specs.declared.write.Refusal.{Refusal}
@@ -13,7 +13,7 @@ use Rattle.model_base.specs.Trace.{Trace, Begins, Settings}
 use Rattle.model_base.specs.Batch.{Record}
 use Rattle.model_base.specs.Attempts.{Fate}
 use Rattle.model_base.specs.LogContents.{GroupCall, IsLoggedBy}
-use Rattle.model_base.specs.Tokens.{tokens_of, holds_stop}
+use Rattle.model_base.specs.Tokens.{tokens_of, holds_stop, shown_by_tokens, said_in}
 use Rattle.model_base.specs.Progress.{Progress, fresh, first_missing, early_refusal}
 use Rattle.model_base.specs.Replies.{IsLater, WasHeldUp, LooksAway, IsTold, MayRefuse, IsKeptOut, IsAccepted, IsAttempted, ReadsAt, IsDone, Gets, GetsMany, Scans, IfThere, IsLogRead, ReadsLog, Updates, Stops, Unstops, Slows, Unslows, Replies, Stays}
 use Rattle.model_base.specs.Runs.{Step, Run, IsTranscript, whole, cut_off}
@@ -66,14 +66,21 @@ not_kept_out asked fate free = λ stopping. absurd (cc (free, stopping))
 pub logged_in : (xs ys : List GroupCall) → IsPrefix xs ys → (knew knows first : ℕ) (records : List Record) (sync : Bool) → IsLoggedBy xs knew knows first records sync → IsLoggedBy ys knew knows first records sync
 logged_in xs ys p knew knows first records sync s = record { place = s.place; call = s.call; there = prefix_at xs ys p s.place s.call s.there; later = s.later; known = s.known; wrote = s.wrote }
 
+-- what was said of the first calls of a history holds of those of a longer one
+pub unseen_in : (xs ys : List ControllerCall) → IsPrefix xs ys → (decided first : ℕ) → decided ≤ length xs → shown_by_tokens (take decided xs) < first → shown_by_tokens (take decided ys) < first
+unseen_in xs ys p decided first within s = subst (λ (l : List ControllerCall). shown_by_tokens l < first) (sym (prefix_take xs ys p decided within)) s
+
+pub said_same : (xs ys : List ControllerCall) → IsPrefix xs ys → (place shown : ℕ) → place < length xs → shown ≤ said_in (take (place + 1) xs) → shown ≤ said_in (take (place + 1) ys)
+said_same xs ys p place shown within s = subst (λ (l : List ControllerCall). shown ≤ said_in l) (sym (prefix_take xs ys p (place + 1) (omega (arith, within)))) s
+
 -- what follows where there is no early refusal
 in_none : {A : Type 0} (X Y : Type 0) (Q : A → Type 0) (o : Option A) → (X → Y) → MatchOption o X Q → MatchOption o Y Q
 in_none X Y Q None f s = f s
 in_none X Y Q (Some a) f s = s
 
 module _ (v w : Trace) (b : Begins v w) where
-  attempted_in : (client : ℕ) (p : Progress) (how : WriteOptions) (r : Reply) (q : Progress) → IsAttempted v client p how r q → IsAttempted w client p how r q
-  attempted_in client p how (accepted x y rs) q s = record {
+  attempted_in : (client : ℕ) (p : Progress) (how : WriteOptions) (r : Reply) (q : Progress) → q.known ≤ length v.controller_calls → IsAttempted v client p how r q → IsAttempted w client p how r q
+  attempted_in client p how (accepted x y rs) q within s = record {
     batch = s.batch;
     run = s.run;
     above = s.above;
@@ -83,11 +90,13 @@ module _ (v w : Trace) (b : Begins v w) where
     place = s.place;
     decided = s.decided;
     asked = s.asked;
+    said = said_same v.controller_calls w.controller_calls b.controller_calls s.place p.seen_up_to (let seen = s.asked.1 in let known = s.asked.2 in omega (arith, seen, known, within)) s.said;
+    unseen = unseen_in v.controller_calls w.controller_calls b.controller_calls s.decided x (let known = s.asked.2 in omega (arith, known, within)) s.unseen;
     logged = λ to_log. logged_in v.log_calls w.log_calls b.log_calls p.logged q.logged x p.pending how.sync (s.logged to_log);
     after = s.after;
   }
-  attempted_in client p how (refused why) q s = (s.0, refuse_in v.controller_calls w.controller_calls b.controller_calls client p p.seen_up_to q.known (omega arith) how why s.0 s.1, s.2, s.3, s.4)
-  attempted_in client p how _ q s = absurd s
+  attempted_in client p how (refused why) q within s = (s.0, refuse_in v.controller_calls w.controller_calls b.controller_calls client p p.seen_up_to q.known (omega arith) how why s.0 s.1, s.2, s.3, s.4)
+  attempted_in client p how _ q within s = absurd s
 
   up_to_in : (at : ℕ) (front : List Entry) → IsUpTo v.start v.entries at front → IsUpTo w.start w.entries at front
   up_to_in at front s =
@@ -141,45 +150,56 @@ module _ (v w : Trace) (b : Begins v w) where
   updates_in settings p n (refused why) q s = s
   updates_in settings p n _ q s = absurd s
 
-  done_in : (client : ℕ) (p : Progress) (a : Action) (q : Progress) → IsDone v client p a q → IsDone w client p a q
-  done_in client p a q s = record { place = s.place; is_later = later_in v.controller_calls w.controller_calls b.controller_calls p.known s.place _ s.is_later; known = s.known; after = s.after }
+  done_in : (client : ℕ) (p : Progress) (a : Action) (q : Progress) → q.known ≤ length v.controller_calls → IsDone v client p a q → IsDone w client p a q
+  done_in client p a q within s =
+      let known = s.known in let later = s.hears.later in record {
+        place = s.place;
+        is_later = later_in v.controller_calls w.controller_calls b.controller_calls p.known s.place _ s.is_later;
+        had = s.had;
+        said = said_same v.controller_calls w.controller_calls b.controller_calls s.place p.seen_up_to (omega (arith, known, later, within)) s.said;
+        heard_at = s.heard_at;
+        most = s.most;
+        hears = later_in v.controller_calls w.controller_calls b.controller_calls (s.place + 1) s.heard_at _ s.hears;
+        known = s.known;
+        after = s.after;
+      }
 
-  stops_in : (client : ℕ) (p : Progress) (r : Reply) (q : Progress) → Stops v client p r q → Stops w client p r q
-  stops_in client p done q s = (s.0, done_in client p _ q s.1)
-  stops_in client p held q s = s
-  stops_in client p _ q s = absurd s
+  stops_in : (client : ℕ) (p : Progress) (r : Reply) (q : Progress) → q.known ≤ length v.controller_calls → Stops v client p r q → Stops w client p r q
+  stops_in client p done q within s = (s.0, s.1, done_in client p _ q within s.2)
+  stops_in client p held q within s = s
+  stops_in client p _ q within s = absurd s
 
-  unstops_in : (client : ℕ) (p : Progress) (r : Reply) (q : Progress) → Unstops v client p r q → Unstops w client p r q
-  unstops_in client p done q s = (s.0, done_in client p _ q s.1)
-  unstops_in client p not_held q s = s
-  unstops_in client p _ q s = absurd s
+  unstops_in : (client : ℕ) (p : Progress) (r : Reply) (q : Progress) → q.known ≤ length v.controller_calls → Unstops v client p r q → Unstops w client p r q
+  unstops_in client p done q within s = (s.0, s.1, done_in client p _ q within s.2)
+  unstops_in client p not_held q within s = s
+  unstops_in client p _ q within s = absurd s
 
-  slows_in : (client : ℕ) (p : Progress) (rate : ℕ) (r : Reply) (q : Progress) → Slows v client p rate r q → Slows w client p rate r q
-  slows_in client p rate done q s = (s.0, done_in client p _ q s.1)
-  slows_in client p rate held q s = s
-  slows_in client p rate _ q s = absurd s
+  slows_in : (client : ℕ) (p : Progress) (rate : ℕ) (r : Reply) (q : Progress) → q.known ≤ length v.controller_calls → Slows v client p rate r q → Slows w client p rate r q
+  slows_in client p rate done q within s = (s.0, s.1, done_in client p _ q within s.2)
+  slows_in client p rate held q within s = s
+  slows_in client p rate _ q within s = absurd s
 
-  unslows_in : (client : ℕ) (p : Progress) (r : Reply) (q : Progress) → Unslows v client p r q → Unslows w client p r q
-  unslows_in client p done q s = (s.0, done_in client p _ q s.1)
-  unslows_in client p not_held q s = s
-  unslows_in client p _ q s = absurd s
+  unslows_in : (client : ℕ) (p : Progress) (r : Reply) (q : Progress) → q.known ≤ length v.controller_calls → Unslows v client p r q → Unslows w client p r q
+  unslows_in client p done q within s = (s.0, s.1, done_in client p _ q within s.2)
+  unslows_in client p not_held q within s = s
+  unslows_in client p _ q within s = absurd s
 
-  pub replies_in : (settings : Settings) (client : ℕ) (p : Progress) (c : Command) (r : Reply) (q : Progress) → Replies settings v client p c r q → Replies settings w client p c r q
-  replies_in settings client p (add x) r q s = s
-  replies_in settings client p clear r q s = s
-  replies_in settings client p (commit how) r q s = in_none {A = Refusal} _ _ (λ why. (r ≡ refused why) × Stays p q) (early_refusal settings.families settings.batch_bytes (holds_stop p.asked) p.pending how) (attempted_in client p how r q) s
-  replies_in settings client p (get key) r q s = there_in settings (key.family ∷ []) p r q _ _ (gets_in p key r q) s
-  replies_in settings client p (many keys) r q s = there_in settings (map (λ (k : Key). k.family) keys) p r q _ _ (many_in p keys r q) s
-  replies_in settings client p (scan family lo hi) r q s = there_in settings (family ∷ []) p r q _ _ (scans_in p family lo hi r q) s
-  replies_in settings client p (updates n) r q s = updates_in settings p n r q s
-  replies_in settings client p stop r q s = stops_in client p r q s
-  replies_in settings client p unstop r q s = unstops_in client p r q s
-  replies_in settings client p (slow rate) r q s = slows_in client p rate r q s
-  replies_in settings client p unslow r q s = unslows_in client p r q s
+  replies_in : (settings : Settings) (client : ℕ) (p : Progress) (c : Command) (r : Reply) (q : Progress) → q.known ≤ length v.controller_calls → Replies settings v client p c r q → Replies settings w client p c r q
+  replies_in settings client p (add x) r q within s = s
+  replies_in settings client p clear r q within s = s
+  replies_in settings client p (commit how) r q within s = in_none {A = Refusal} _ _ (λ why. (r ≡ refused why) × Stays p q) (early_refusal settings.families settings.batch_bytes (holds_stop p.asked) p.pending how) (attempted_in client p how r q within) s
+  replies_in settings client p (get key) r q within s = there_in settings (key.family ∷ []) p r q _ _ (gets_in p key r q) s
+  replies_in settings client p (many keys) r q within s = there_in settings (map (λ (k : Key). k.family) keys) p r q _ _ (many_in p keys r q) s
+  replies_in settings client p (scan family lo hi) r q within s = there_in settings (family ∷ []) p r q _ _ (scans_in p family lo hi r q) s
+  replies_in settings client p (updates n) r q within s = updates_in settings p n r q s
+  replies_in settings client p stop r q within s = stops_in client p r q within s
+  replies_in settings client p unstop r q within s = unstops_in client p r q within s
+  replies_in settings client p (slow rate) r q within s = slows_in client p rate r q within s
+  replies_in settings client p unslow r q within s = unslows_in client p r q within s
 
   pub step_in : (settings : Settings) (client : ℕ) (p : Progress) (c : Command) (r : Reply) (q : Progress) → Step settings v client p c r q → Step settings w client p c r q
   step_in settings client p c r q s = record {
-    replies = replies_in settings client p c r q s.replies;
+    replies = replies_in settings client p c r q s.within s.replies;
     rises = s.rises;
     within = (let n = s.within in let m = prefix_length v.controller_calls w.controller_calls b.controller_calls in omega arith);
     tokens = ap (tokens_of client) (prefix_take v.controller_calls w.controller_calls b.controller_calls q.known s.within) ∙ s.tokens;

@@ -5,7 +5,7 @@ use Rattle.std.specs.List.{AllByRecursion, AllZip}
 use Rattle.model_base.specs.declared.group.Item.{Item}
 use Rattle.model_base.specs.History.{IsBoundary}
 use Rattle.model_base.specs.Grouping.{size_of, group_len}
-use Rattle.model_base.specs.Controller.{ControllerCall, Action, stop, unstop, slow, unslow, delay, look, Look, HoldUp}
+use Rattle.model_base.specs.Controller.{ControllerCall, Action, stop, unstop, slow, unslow, delay, look, say, hear, Look, HoldUp}
 use Rattle.model_base.specs.Trace.{Trace}
 use Rattle.model_base.specs.Attempts.{Attempt, WriteStatus, succeeded, slowed, faulted, full, item_of}
 
@@ -51,12 +51,14 @@ pub record HasPlace (groups : List Group) (place : ℕ) : Type 0 where
   pub is : group.place ≡ place
 
 abbrev pub is_delay : Action → Bool
-is_delay stop = false
-is_delay unstop = false
-is_delay (slow rate) = false
-is_delay unslow = false
+is_delay (stop shown) = false
+is_delay (unstop shown) = false
+is_delay (slow rate shown) = false
+is_delay (unslow shown) = false
 is_delay (delay now bytes) = true
 is_delay look = false
+is_delay (say shown) = false
+is_delay (hear most) = false
 
 -- each delay among these calls, the first of which has this place, was asked for one of the groups
 abbrev pub AreAsked : List Group → ℕ → List ControllerCall → Type 0

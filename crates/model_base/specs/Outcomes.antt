@@ -5,7 +5,7 @@ use Rattle.model_base.specs.History.{Entry, IsHistory, last_sequence, map_over}
 use Rattle.model_base.specs.Counts.{Rose}
 use Rattle.model_base.specs.Controller.{ControllerCall}
 use Rattle.model_base.specs.Controller.{IsLegal as IsControllerHistory}
-use Rattle.model_base.specs.Tokens.{is_token, tokens_of, given_back}
+use Rattle.model_base.specs.Tokens.{is_token, tokens_of, given_back, AreHeard}
 use Rattle.model_base.specs.Trace.{Trace, Settings}
 use Rattle.model_base.specs.Attempts.{Attempt}
 use Rattle.model_base.specs.Groups.{Group, AreGroups, AreStatuses}
@@ -49,18 +49,22 @@ pub record IsTrace (settings : Settings) (trace : Trace) : Type 0 where
   pub entries : IsHistory trace.start trace.entries
   pub logged : AreGroupsOf trace.entries trace.logged
   pub controller_calls : IsControllerHistory trace.controller_calls
+  pub heard : AreHeard trace.controller_calls
   pub clients : AllByRecursion (λ (e : Entry). IsClient settings e.client) trace.entries
   pub tokens : AllByRecursion
       (λ (t : ControllerCall). IsTrue (is_token t.action) → IsClient settings t.client) trace.controller_calls
 
 -- A client's calls are right in the trace. Its accepted batches are just its entries there. Its token calls are just
--- those there, with the tokens that it gave back at its end. Its commits have statuses that agree with the trace.
+-- those there, with the tokens that it gave back at its end: then too it had been shown no more than these calls say.
+-- Its commits have statuses that agree with the trace.
 pub record IsLegalTranscript (settings : Settings) (trace : Trace) (fault : Option ℕ) (client : ℕ)
     (commands : List Command) (calls : List Call) (attempts : List Attempt) : Type 0 where
   pub end : Progress
   pub is_transcript : IsTranscript settings trace client commands calls end
   pub accepted : entries_of_client client trace.entries ≡ end.mine
-  pub tokens : tokens_of client trace.controller_calls ≡ end.asked ++ given_back end.asked
+  pub shown : ℕ
+  pub had : end.seen_up_to ≤ shown
+  pub tokens : tokens_of client trace.controller_calls ≡ end.asked ++ given_back end.asked shown
   pub commits : attempts ≡ end.attempts
   pub statuses : AreStatuses trace fault attempts
 

@@ -1,5 +1,5 @@
 -- Which replies a client may get, and what its progress is after them.
-use Rattle.std.specs.Prelude.{◌≡◌, ◌≢◌, ◌⊎◌, Bool, ℕ, ◌+◌, ◌<◌, ◌≤◌, true, false, List, [], ◌∷◌, ◌++◌, map, max, Option, Some, None, slice_get, IfSome, MatchOption, ⊤}
+use Rattle.std.specs.Prelude.{◌≡◌, ◌≢◌, ◌⊎◌, Bool, ℕ, ◌+◌, ◌<◌, ◌≤◌, true, false, List, [], ◌∷◌, ◌++◌, map, max, take, Option, Some, None, slice_get, IfSome, MatchOption, ⊤}
 use Rattle.std.specs.List.{AllByRecursion}
 use mathlib.Core.List.{IsPrefix}
 use Rattle.model_base.specs.declared.write.WriteOptions.{WriteOptions}
@@ -10,7 +10,7 @@ use Rattle.model_base.specs.Map.{Key, Pairs, value_at, rows_within}
 use Rattle.model_base.specs.History.{Entry, IsUpTo, map_over, max_sequence, last_of}
 use Rattle.model_base.specs.Controller as controller
 use Rattle.model_base.specs.Controller.{ControllerCall, Action, Look, HoldUp, ShowTokens}
-use Rattle.model_base.specs.Tokens.{holds_stop, holds_slow}
+use Rattle.model_base.specs.Tokens.{holds_stop, holds_slow, shown_by_token, shown_by_tokens, said_in}
 use Rattle.model_base.specs.Trace.{Trace, Settings}
 use Rattle.model_base.specs.Attempts.{Attempt, WriteStatus, succeeded, slowed, faulted, full, Fate, fate_at, status_in, with_attempt, knows_log_failed}
 use Rattle.model_base.specs.Progress.{Progress, next_entry, first_missing, early_refusal}
@@ -128,10 +128,12 @@ Clears p other q = ⊥
 -- The batch got the run that was replied, and is the client's next entry. The run is above all that the client was
 -- shown, and above each sequence after which there was no room for an earlier batch of this client. The client doesn't
 -- know of a fault of the log, and holds no stop token. The delay of its group is within the call, and so is the look
--- after which the group went on, if it waited for one. A batch that goes into the log was written by a call of the log
--- writer that had returned when the client was answered.
-pub record IsAccepted (log_calls : List GroupCall) (client : ℕ) (p : Progress) (how : WriteOptions) (first last : ℕ)
-    (records : List Record) (q : Progress) : Type 0 where
+-- after which the group went on, if it waited for one. Nobody who took a token or gave one back before its leader
+-- decided had been shown the batch. By the delay, calls of the controller had said all that the client had been shown.
+-- A batch that goes into the log was written by a call of the log writer that had
+-- returned when the client was answered.
+pub record IsAccepted (controller_calls : List ControllerCall) (log_calls : List GroupCall) (client : ℕ) (p : Progress)
+    (how : WriteOptions) (first last : ℕ) (records : List Record) (q : Progress) : Type 0 where
   pub batch : records ≡ p.pending
   pub run : last + 1 ≡ first + count_of p.pending
   pub above : p.seen_up_to < first
@@ -141,6 +143,8 @@ pub record IsAccepted (log_calls : List GroupCall) (client : ℕ) (p : Progress)
   pub place : ℕ
   pub decided : ℕ
   pub asked : IsWithinCall p.known q.known place decided
+  pub unseen : shown_by_tokens (take decided controller_calls) < first
+  pub said : p.seen_up_to ≤ said_in (take (place + 1) controller_calls)
   pub logged : how.no_log ≡ false → IsLoggedBy log_calls p.logged q.logged first p.pending how.sync
   pub after : q ≡ record p {
     pending = [];
@@ -154,7 +158,7 @@ pub record IsAccepted (log_calls : List GroupCall) (client : ℕ) (p : Progress)
 -- a commit that passed the early checks
 abbrev pub IsAttempted : Trace → ℕ → Progress → WriteOptions → Reply → Progress → Type 0
 IsAttempted trace client p how (accepted first last records) q =
-    IsAccepted trace.log_calls client p how first last records q
+    IsAccepted trace.controller_calls trace.log_calls client p how first last records q
 IsAttempted trace client p how (refused why) q =
     (fate : Option Fate) × MayRefuse trace.controller_calls client p q.known how why fate
     × (q ≡ record p { attempts = with_attempt p.attempts p.pending how fate; known = q.known; logged = q.logged })
@@ -218,30 +222,47 @@ Updates settings trace p s (read_failed count) q = (holds_stop p.asked ≡ false
 Updates settings trace p s other q = ⊥
 
 -- A token is taken or given back: the controller's history has that call, after all that was known, and now the client
--- knows of it.
+-- knows of it. The call's number is no less than what the client had been shown, and calls up to this one say all that
+-- it had been shown. Then the client hears up to which sequence it is shown what is published from now on: that is no
+-- less than what all calls up to the token call say (`AreHeard`).
 pub record IsDone (trace : Trace) (client : ℕ) (p : Progress) (action : Action) (q : Progress) : Type 0 where
   pub place : ℕ
   pub is_later : IsLater trace.controller_calls p.known place (record { client = client; action = action; told = None })
-  pub known : place < q.known
-  pub after : q ≡ record p { asked = p.asked ++ action ∷ []; known = q.known; logged = q.logged }
+  pub had : p.seen_up_to ≤ shown_by_token action
+  pub said : p.seen_up_to ≤ said_in (take (place + 1) trace.controller_calls)
+  pub heard_at : ℕ
+  pub most : ℕ
+  pub hears : IsLater trace.controller_calls (place + 1) heard_at
+      (record { client = client; action = controller.hear most; told = None })
+  pub known : heard_at < q.known
+  pub after : q ≡ record p {
+    asked = p.asked ++ action ∷ [];
+    seen_up_to = max p.seen_up_to most;
+    known = q.known;
+    logged = q.logged;
+  }
 
 abbrev pub Stops : Trace → ℕ → Progress → Reply → Progress → Type 0
-Stops trace client p done q = (holds_stop p.asked ≡ false) × IsDone trace client p controller.stop q
+Stops trace client p done q = (holds_stop p.asked ≡ false) × (shown : ℕ)
+    × IsDone trace client p (controller.stop shown) q
 Stops trace client p held q = (holds_stop p.asked ≡ true) × Stays p q
 Stops trace client p other q = ⊥
 
 abbrev pub Unstops : Trace → ℕ → Progress → Reply → Progress → Type 0
-Unstops trace client p done q = (holds_stop p.asked ≡ true) × IsDone trace client p controller.unstop q
+Unstops trace client p done q = (holds_stop p.asked ≡ true) × (shown : ℕ)
+    × IsDone trace client p (controller.unstop shown) q
 Unstops trace client p not_held q = (holds_stop p.asked ≡ false) × Stays p q
 Unstops trace client p other q = ⊥
 
 abbrev pub Slows : Trace → ℕ → Progress → ℕ → Reply → Progress → Type 0
-Slows trace client p rate done q = (holds_slow p.asked ≡ false) × IsDone trace client p (controller.slow rate) q
+Slows trace client p rate done q = (holds_slow p.asked ≡ false) × (shown : ℕ)
+    × IsDone trace client p (controller.slow rate shown) q
 Slows trace client p rate held q = (holds_slow p.asked ≡ true) × Stays p q
 Slows trace client p rate other q = ⊥
 
 abbrev pub Unslows : Trace → ℕ → Progress → Reply → Progress → Type 0
-Unslows trace client p done q = (holds_slow p.asked ≡ true) × IsDone trace client p controller.unslow q
+Unslows trace client p done q = (holds_slow p.asked ≡ true) × (shown : ℕ)
+    × IsDone trace client p (controller.unslow shown) q
 Unslows trace client p not_held q = (holds_slow p.asked ≡ false) × Stays p q
 Unslows trace client p other q = ⊥
 

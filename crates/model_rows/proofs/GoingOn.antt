@@ -9,18 +9,19 @@ use Rattle.model_base.specs.Attempts.{Attempt, succeeded}
 use Rattle.model_base.specs.Progress.{Progress, fresh}
 use Rattle.model_base.specs.Runs.{whole, commands_of}
 use Rattle.model_base.specs.Outcomes.{IsLegal, IsLegalTranscript}
+use Rattle.model_base.proofs.Shown.{heard_without_tokens}
 use Rattle.model_rows.specs.Examples.{put_b2, plain, key_a}
 use Rattle.model_rows.specs.Runs.{entry_at, begun_before, going_on_script, going_on_calls, went_on}
 use Rattle.model_rows.proofs.Alone.{each_one, steps, writes, logged_alone, added, took, shown}
-use Rattle.model_rows.proofs.OwnGroups.{delays_of, groups_of, one_alone}
+use Rattle.model_rows.proofs.OwnGroups.{own, said_delays_of, said_alone}
 use Rattle.model_rows.proofs.Steps.{run_of}
 
 abbrev attempt : Attempt
-attempt = record { records = put_b2 ∷ []; options = plain; status = succeeded; place = 0; decided = 1 }
+attempt = record { records = put_b2 ∷ []; options = plain; status = succeeded; place = 1; decided = 2 }
 
 -- the trace of the one batch after what was recovered
 abbrev behind : Trace
-behind = record { start = 1; opening = begun_before.opening; kept = None; entries = entry_at 1 2 put_b2 ∷ []; logged = (entry_at 1 2 put_b2 ∷ []) ∷ []; controller_calls = delays_of attempt; log_calls = writes 2 (put_b2 ∷ []) ∷ [] }
+behind = record { start = 1; opening = begun_before.opening; kept = None; entries = entry_at 1 2 put_b2 ∷ []; logged = (entry_at 1 2 put_b2 ∷ []) ∷ []; controller_calls = said_delays_of 1 attempt; log_calls = writes 2 (put_b2 ∷ []) ∷ [] }
 
 -- The client's progress after each call
 
@@ -31,7 +32,7 @@ abbrev begun : Progress
 begun = added put_b2 seen_before
 
 abbrev taken : Progress
-taken = took 2 2 0 begun
+taken = took 2 2 1 begun
 
 transcript : IsLegalTranscript begun_before behind None 1 (commands_of going_on_calls) going_on_calls taken.attempts
 unfolding varint_within
@@ -45,12 +46,14 @@ transcript = record {
       steps begun_before behind seen_before _ _ begun refl (lit≤ tt) (lit≤ tt) refl (lit≤ tt) (lit≤ tt),
       (
         taken,
-        steps begun_before behind begun _ _ taken (record { batch = refl; run = refl; above = lit≤ tt; behind = tt; alive = refl; free = refl; place = 0; decided = 1; asked = (lit≤ tt, lit≤ tt, lit≤ tt); logged = λ to_log. logged_alone _ 0 0 2 (put_b2 ∷ []) refl (lit≤ tt); after = refl }) (lit≤ tt) (lit≤ tt) refl (lit≤ tt) (lit≤ tt),
+        steps begun_before behind begun _ _ taken (record { batch = refl; run = refl; above = lit≤ tt; behind = tt; alive = refl; free = refl; place = 1; decided = 2; asked = (lit≤ tt, lit≤ tt, lit≤ tt); unseen = lit≤ tt; said = lit≤ tt; logged = λ to_log. logged_alone _ 0 0 2 (put_b2 ∷ []) refl (lit≤ tt); after = refl }) (lit≤ tt) (lit≤ tt) refl (lit≤ tt) (lit≤ tt),
         refl,
       ),
     ),
   );
   accepted = refl;
+  shown = 2;
+  had = lit≤ tt;
   tokens = refl;
   commits = refl;
   statuses = (tt, tt);
@@ -67,16 +70,17 @@ went_on-legal = record {
       kept = refl;
       entries = (record { counted = refl; some = lit≤ tt; first = refl; fits = lit≤ tt }, tt);
       logged = record { cut = refl; none_empty = (lit≤ tt, tt); runs = (tt, tt) };
-      controller_calls = (refl, tt);
+      controller_calls = (refl, (refl, tt));
+      heard = heard_without_tokens _ (refl, (refl, tt));
       clients = ((lit≤ tt, lit≤ tt), tt);
-      tokens = ((λ is. cc), tt);
+      tokens = ((λ is. cc), ((λ is. cc), tt));
     };
     history = refl;
     clients = refl;
     count = refl;
     count_attempts = refl;
-    groups = groups_of attempt;
-    are_groups = one_alone attempt refl refl refl;
+    groups = own 1 0 attempt ∷ [];
+    are_groups = said_alone 1 attempt refl refl refl;
     each = each_one begun_before behind None _ going_on_calls taken.attempts transcript;
     last = refl;
     state = refl;

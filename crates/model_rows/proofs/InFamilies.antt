@@ -9,6 +9,7 @@ use Rattle.model_base.specs.Attempts.{Attempt, succeeded}
 use Rattle.model_base.specs.Progress.{Progress, fresh}
 use Rattle.model_base.specs.Runs.{whole, commands_of}
 use Rattle.model_base.specs.Outcomes.{IsLegal, IsLegalTranscript}
+use Rattle.model_base.proofs.Shown.{heard_without_tokens}
 use Rattle.model_rows.specs.Examples.{put_a1, put_1a2, plain, key_a, key_1a}
 use Rattle.model_rows.specs.Runs.{entry_at, two_families, both_families, put_2a3, families_script, families_calls, in_both_families, torn_script, torn_calls, torn_read}
 use Rattle.model_rows.proofs.Alone.{each_one, steps, writes, logged_alone, added, took, shown}
@@ -51,7 +52,7 @@ transcript = record {
       steps two_families one_batch (added put_a1 fresh) _ _ begun refl (lit≤ tt) (lit≤ tt) refl (lit≤ tt) (lit≤ tt),
       (
         taken,
-        steps two_families one_batch begun _ _ taken (record { batch = refl; run = refl; above = lit≤ tt; behind = tt; alive = refl; free = refl; place = 0; decided = 1; asked = (lit≤ tt, lit≤ tt, lit≤ tt); logged = λ to_log. logged_alone _ 0 0 1 both_families refl (lit≤ tt); after = refl }) (lit≤ tt) (lit≤ tt) refl (lit≤ tt) (lit≤ tt),
+        steps two_families one_batch begun _ _ taken (record { batch = refl; run = refl; above = lit≤ tt; behind = tt; alive = refl; free = refl; place = 0; decided = 1; asked = (lit≤ tt, lit≤ tt, lit≤ tt); unseen = lit≤ tt; said = lit≤ tt; logged = λ to_log. logged_alone _ 0 0 1 both_families refl (lit≤ tt); after = refl }) (lit≤ tt) (lit≤ tt) refl (lit≤ tt) (lit≤ tt),
         (
           seen,
           steps two_families one_batch taken _ _ seen (record { front = the_entry ∷ []; is_front = record { rest = []; split = refl; ends = refl }; not_below = lit≤ tt; answer = refl; after = refl }) (lit≤ tt) (lit≤ tt) refl (lit≤ tt) (lit≤ tt),
@@ -73,6 +74,8 @@ transcript = record {
     ),
   );
   accepted = refl;
+  shown = 2;
+  had = lit≤ tt;
   tokens = refl;
   commits = refl;
   statuses = (tt, tt);
@@ -90,6 +93,7 @@ in_both_families-legal = record {
       entries = (record { counted = refl; some = lit≤ tt; first = refl; fits = lit≤ tt }, tt);
       logged = record { cut = refl; none_empty = (lit≤ tt, tt); runs = (tt, tt) };
       controller_calls = (refl, tt);
+      heard = heard_without_tokens _ (refl, tt);
       clients = ((lit≤ tt, lit≤ tt), tt);
       tokens = ((λ is. cc), tt);
     };

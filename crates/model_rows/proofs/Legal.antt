@@ -9,6 +9,7 @@ use Rattle.model_base.specs.Groups.{Group}
 use Rattle.model_base.specs.Progress.{Progress, fresh}
 use Rattle.model_base.specs.Runs.{whole, commands_of}
 use Rattle.model_base.specs.Outcomes.{IsLegal, IsLegalTranscript}
+use Rattle.model_base.proofs.Shown.{heard_without_tokens}
 use Rattle.model_base.proofs.Runs.{not_kept_out}
 use Rattle.model_rows.specs.Examples.{put_a1, put_b2, plain}
 use Rattle.model_rows.specs.Runs.{entry_at, one_client, one_script, one_calls, one_commit, refused_calls, refused_commit, failing_script, failing_calls, failed_write}
@@ -65,7 +66,7 @@ accepted_transcript = record {
     steps one_client one_batch fresh _ _ begun refl (lit≤ tt) (lit≤ tt) refl (lit≤ tt) (lit≤ tt),
     (
       taken_once,
-      steps one_client one_batch begun _ _ taken_once (record { batch = refl; run = refl; above = lit≤ tt; behind = tt; alive = refl; free = refl; place = 0; decided = 1; asked = (lit≤ tt, lit≤ tt, lit≤ tt); logged = λ to_log. logged_alone _ 0 0 1 (put_a1 ∷ []) refl (lit≤ tt); after = refl }) (lit≤ tt) (lit≤ tt) refl (lit≤ tt) (lit≤ tt),
+      steps one_client one_batch begun _ _ taken_once (record { batch = refl; run = refl; above = lit≤ tt; behind = tt; alive = refl; free = refl; place = 0; decided = 1; asked = (lit≤ tt, lit≤ tt, lit≤ tt); unseen = lit≤ tt; said = lit≤ tt; logged = λ to_log. logged_alone _ 0 0 1 (put_a1 ∷ []) refl (lit≤ tt); after = refl }) (lit≤ tt) (lit≤ tt) refl (lit≤ tt) (lit≤ tt),
       (
         seen_once,
         steps one_client one_batch taken_once _ _ seen_once (record { front = entry_at 1 1 put_a1 ∷ []; is_front = record { rest = []; split = refl; ends = refl }; not_below = lit≤ tt; answer = refl; after = refl }) (lit≤ tt) (lit≤ tt) refl (lit≤ tt) (lit≤ tt),
@@ -74,6 +75,8 @@ accepted_transcript = record {
     ),
   );
   accepted = refl;
+  shown = 1;
+  had = lit≤ tt;
   tokens = refl;
   commits = refl;
   statuses = (tt, tt);
@@ -92,6 +95,7 @@ one_commit-legal = record {
       entries = (record { counted = refl; some = lit≤ tt; first = refl; fits = lit≤ tt }, tt);
       logged = record { cut = refl; none_empty = (lit≤ tt, tt); runs = (tt, tt) };
       controller_calls = (refl, tt);
+      heard = heard_without_tokens _ (refl, tt);
       clients = ((lit≤ tt, lit≤ tt), tt);
       tokens = ((λ is. cc), tt);
     };
@@ -132,6 +136,8 @@ refused_transcript = record {
     ),
   );
   accepted = refl;
+  shown = 0;
+  had = lit≤ tt;
   tokens = refl;
   commits = refl;
   statuses = (refl, tt);
@@ -150,6 +156,7 @@ refused_commit-legal = record {
       entries = tt;
       logged = record { cut = refl; none_empty = tt; runs = tt };
       controller_calls = (refl, tt);
+      heard = heard_without_tokens _ (refl, tt);
       clients = tt;
       tokens = ((λ is. cc), tt);
     };
@@ -190,7 +197,7 @@ failing_transcript = record {
     steps one_client one_of_three fresh _ _ begun refl (lit≤ tt) (lit≤ tt) refl (lit≤ tt) (lit≤ tt),
     (
       taken_once,
-      steps one_client one_of_three begun _ _ taken_once (record { batch = refl; run = refl; above = lit≤ tt; behind = tt; alive = refl; free = refl; place = 0; decided = 1; asked = (lit≤ tt, lit≤ tt, lit≤ tt); logged = λ to_log. logged_alone _ 0 0 1 (put_a1 ∷ []) refl (lit≤ tt); after = refl }) (lit≤ tt) (lit≤ tt) refl (lit≤ tt) (lit≤ tt),
+      steps one_client one_of_three begun _ _ taken_once (record { batch = refl; run = refl; above = lit≤ tt; behind = tt; alive = refl; free = refl; place = 0; decided = 1; asked = (lit≤ tt, lit≤ tt, lit≤ tt); unseen = lit≤ tt; said = lit≤ tt; logged = λ to_log. logged_alone _ 0 0 1 (put_a1 ∷ []) refl (lit≤ tt); after = refl }) (lit≤ tt) (lit≤ tt) refl (lit≤ tt) (lit≤ tt),
       (
         begun_again,
         steps one_client one_of_three taken_once _ _ begun_again refl (lit≤ tt) (lit≤ tt) refl (lit≤ tt) (lit≤ tt),
@@ -215,6 +222,8 @@ failing_transcript = record {
     ),
   );
   accepted = refl;
+  shown = 1;
+  had = lit≤ tt;
   tokens = refl;
   commits = refl;
   statuses = (tt, (refl, (refl, tt)));
@@ -233,6 +242,7 @@ failed_write-legal = record {
       entries = (record { counted = refl; some = lit≤ tt; first = refl; fits = lit≤ tt }, tt);
       logged = record { cut = refl; none_empty = (lit≤ tt, tt); runs = (tt, tt) };
       controller_calls = (refl, (refl, (refl, tt)));
+      heard = heard_without_tokens _ (refl, (refl, (refl, tt)));
       clients = ((lit≤ tt, lit≤ tt), tt);
       tokens = ((λ is. cc), ((λ is. cc), ((λ is. cc), tt)));
     };

@@ -11,6 +11,8 @@ pub mod Stale
 pub mod Steps
 pub mod OwnSlowdown
 pub mod OthersStop
+pub mod EarlyRead
+pub mod ThroughStop
 pub mod Unwritten
 pub mod Waits
 pub mod WholeLogs

@@ -22,15 +22,19 @@ action_same e = ap (λ (t : ControllerCall). t.action) (some_same e)
 -- the one delay reported a stop, and there is no look
 one_stop : (place by now bytes : ℕ) (numbers : Look) → slice_get told_of_a_stop place ≡ Some (record { client = by; action = controller.delay now bytes; told = Some numbers }) → numbers.stops ≡ 1
 one_stop zero by now bytes numbers there = let other = action_same there in absurd (cc)
-one_stop (suc zero) by now bytes numbers there = sym (ap (λ (l : Look). l.stops) (some_same (ap (λ (t : ControllerCall). t.told) (some_same there))))
-one_stop (suc (suc zero)) by now bytes numbers there = let other = action_same there in absurd (cc)
-one_stop (suc (suc (suc place))) by now bytes numbers there = absurd (cc)
+one_stop (suc zero) by now bytes numbers there = let other = action_same there in absurd (cc)
+one_stop (suc (suc zero)) by now bytes numbers there = sym (ap (λ (l : Look). l.stops) (some_same (ap (λ (t : ControllerCall). t.told) (some_same there))))
+one_stop (suc (suc (suc zero))) by now bytes numbers there = let other = action_same there in absurd (cc)
+one_stop (suc (suc (suc (suc zero)))) by now bytes numbers there = let other = action_same there in absurd (cc)
+one_stop (suc (suc (suc (suc (suc place))))) by now bytes numbers there = absurd (cc)
 
 no_look : (at by : ℕ) (numbers : Look) → slice_get told_of_a_stop at ≡ Some (record { client = by; action = controller.look; told = Some numbers }) → ⊥
 no_look zero by numbers there = let other = action_same there in cc
 no_look (suc zero) by numbers there = let other = action_same there in cc
 no_look (suc (suc zero)) by numbers there = let other = action_same there in cc
-no_look (suc (suc (suc at))) by numbers there = cc
+no_look (suc (suc (suc zero))) by numbers there = let other = action_same there in cc
+no_look (suc (suc (suc (suc zero)))) by numbers there = let other = action_same there in cc
+no_look (suc (suc (suc (suc (suc at))))) by numbers there = cc
 
 -- so a commit that may wait can't go on
 may_not : (delays : List ℕ) (by place decided now bytes : ℕ) (numbers : Look) (no_slowdown : Bool) → no_slowdown ≡ false → slice_get told_of_a_stop place ≡ Some (record { client = by; action = controller.delay now bytes; told = Some numbers })

@@ -1,8 +1,8 @@
 -- Groups of one commit each, of the one client that commits.
-use Rattle.std.proofs.Common.{◌≡◌, ℕ, zero, suc, ◌+◌, ◌<◌, false, Some, List, [], ◌∷◌, map, length, slice_get, refl, ap, sym, ◌∙◌, subst, inl, inr, arith}
+use Rattle.std.proofs.Common.{◌≡◌, ℕ, zero, suc, ◌+◌, ◌<◌, false, Some, None, List, [], ◌∷◌, map, length, slice_get, refl, ap, sym, ◌∙◌, subst, inl, inr, arith}
 use Rattle.std.specs.List.{AllByRecursion}
 use Rattle.model_base.specs.Grouping.{size_of}
-use Rattle.model_base.specs.Controller.{ControllerCall, delay, Look}
+use Rattle.model_base.specs.Controller.{ControllerCall, delay, say, Look}
 use Rattle.model_base.specs.Attempts.{Attempt, item_of}
 use Rattle.model_base.specs.Groups.{Group, Member, Holds, HasPlace, IsAskedFor, IsCommit, MayProceed, is_slowed, HasOneFate, AreGroups}
 use Rattle.model_rows.proofs.Alone.{some_same, all_at}
@@ -96,6 +96,29 @@ module _ (h : Attempt) (waits : h.options.no_slowdown ≡ false) (written : is_s
     apart = (tt, tt);
     none_else = none_else_by (groups_of h) (h ∷ []) [] tt held_alone;
     together = (stands_together (delays_of h) (groups_of h) 0 0 h (h ∷ []) [] refl calm at refl written (rw waits (inl refl)), tt);
+  }
+
+-- such a delay, before which the client says what it had been shown
+abbrev pub said_delays_of : ℕ → Attempt → List ControllerCall
+said_delays_of shown h = record { client = 1; action = say shown; told = None } ∷ delay_of h calm ∷ []
+
+module _ (shown : ℕ) (h : Attempt) (waits : h.options.no_slowdown ≡ false) (written : is_slowed h.status ≡ false) (at : h.place ≡ 1) where
+  abbrev said_group : List Group
+  said_group = own 1 0 h ∷ []
+
+  held_said : (call : ℕ) (g : Attempt) → slice_get (h ∷ []) call ≡ Some g → Holds said_group g.place 1 call
+  held_said zero g there = placed said_group 1 0 1 h g there at (holds (said_delays_of shown h) said_group 1 0 h 0 refl)
+  held_said (suc call) g there = absurd (cc)
+
+  pub said_alone : AreGroups 1048576 (said_delays_of shown h) said_group ((h ∷ []) ∷ [])
+  said_alone = record {
+    each = (asked_for (said_delays_of shown h) said_group 1 0 h 1048576 calm refl, tt);
+    all = ((λ is. cc), ((λ is. has_place (said_delays_of shown h) said_group 1 0 h 0 refl), tt));
+    places = (tt, tt);
+    commits = (is_commit (said_delays_of shown h) said_group 1 0 h (h ∷ []) [] refl, tt);
+    apart = (tt, tt);
+    none_else = none_else_by said_group (h ∷ []) [] tt held_said;
+    together = (stands_together (said_delays_of shown h) said_group 1 0 h (h ∷ []) [] refl calm at refl written (rw waits (inl refl)), tt);
   }
 
 -- three such delays, one after another

@@ -55,8 +55,8 @@ first_waits now bytes many =
 
 -- The history: one call takes a token, and the next delay says that writes are held up
 
-abbrev the_slow : ControllerCall
-the_slow = record { client = 1; action = controller.slow 1; told = None }
+abbrev the_slow : ℕ → ControllerCall
+the_slow shown = record { client = 1; action = controller.slow 1 shown; told = None }
 
 abbrev actions_of : List ControllerCall → List Action
 actions_of calls = map (λ (t : ControllerCall). t.action) calls
@@ -77,13 +77,13 @@ more_than_none : (b : Bool) (t : ControllerCall) (rest : List ControllerCall) �
 more_than_none true t rest none = absurd (cc)
 more_than_none false t rest none = (refl, none)
 
-after_one : (b : Bool) (t : ControllerCall) (rest : List ControllerCall) → b ≡ true → actions_of (cond b (t ∷ rest) rest) ≡ controller.slow 1 ∷ [] → actions_of rest ≡ []
-after_one true t rest token is = cc
-after_one false t rest token is = absurd (cc)
+after_one : (shown : ℕ) (b : Bool) (t : ControllerCall) (rest : List ControllerCall) → b ≡ true → actions_of (cond b (t ∷ rest) rest) ≡ controller.slow 1 shown ∷ [] → actions_of rest ≡ []
+after_one shown true t rest token is = cc
+after_one shown false t rest token is = absurd (cc)
 
-after_another : (b : Bool) (t : ControllerCall) (rest : List ControllerCall) → b ≡ false → actions_of (cond b (t ∷ rest) rest) ≡ controller.slow 1 ∷ [] → actions_of rest ≡ controller.slow 1 ∷ []
-after_another true t rest token is = absurd (cc)
-after_another false t rest token is = is
+after_another : (shown : ℕ) (b : Bool) (t : ControllerCall) (rest : List ControllerCall) → b ≡ false → actions_of (cond b (t ∷ rest) rest) ≡ controller.slow 1 shown ∷ [] → actions_of rest ≡ controller.slow 1 shown ∷ []
+after_another shown true t rest token is = absurd (cc)
+after_another shown false t rest token is = is
 
 no_token : (t : ControllerCall) → (IsTrue (is_token t.action) → IsClient one_client t.client) → ((t.client == 1) && is_token t.action) ≡ false → is_token t.action ≡ false
 no_token t named none = elim (cases_Bool (is_token t.action)) [
@@ -91,19 +91,21 @@ no_token t named none = elim (cases_Bool (is_token t.action)) [
   | inr plain ↦ plain
 ]
 
-none_is_slow : (calls : List ControllerCall) (n place : ℕ) → tokens_of 1 (take n calls) ≡ [] → place < n → slice_get calls place ≡ Some the_slow → ⊥
-none_is_slow [] n place none before there = absurd (cc there)
-none_is_slow (t ∷ calls) zero place none before there = omega (arith, before)
-none_is_slow (t ∷ calls) (suc n) zero none before there =
+none_is_slow : (shown : ℕ) (calls : List ControllerCall) (n place : ℕ) → tokens_of 1 (take n calls) ≡ [] → place < n → slice_get calls place ≡ Some (the_slow shown) → ⊥
+none_is_slow shown [] n place none before there = absurd (cc there)
+none_is_slow shown (t ∷ calls) zero place none before there = omega (arith, before)
+none_is_slow shown (t ∷ calls) (suc n) zero none before there =
     let gone = (more_than_none ((t.client == 1) && is_token t.action) t _ none).0 in
-    let here : ((the_slow.client == 1) && is_token the_slow.action) ≡ false = subst (λ (u : ControllerCall). ((u.client == 1) && is_token u.action) ≡ false) (some_same there) gone in
+    let here : (((the_slow shown).client == 1) && is_token (the_slow shown).action) ≡ false = subst (λ (u : ControllerCall). ((u.client == 1) && is_token u.action) ≡ false) (some_same there) gone in
     absurd (cc here)
-none_is_slow (t ∷ calls) (suc n) (suc place) none before there =
-    none_is_slow calls n place (more_than_none ((t.client == 1) && is_token t.action) t _ none).1 (omega (arith, before)) there
+none_is_slow shown (t ∷ calls) (suc n) (suc place) none before there =
+    none_is_slow shown calls n place (more_than_none ((t.client == 1) && is_token t.action) t _ none).1 (omega (arith, before)) there
 
 -- what is no token and no delay changes nothing
 looks_on : (n : Numbers) (a : Action) → is_token a ≡ false → is_delay a ≡ false → numbers_after n a ≡ n
 looks_on n controller.look plain other = refl
+looks_on n (controller.say shown) plain other = refl
+looks_on n (controller.hear most) plain other = refl
 looks_on n (controller.delay now bytes) plain other = absurd (cc)
 looks_on n other plain not_delay = absurd (cc)
 
@@ -128,25 +130,25 @@ told_slow (t ∷ calls) (suc n) (suc place) before history named none quiet by n
     told_slow calls n place (omega (arith, before)) (subst (λ (m : Numbers). IsHistoryFrom m calls) same history.1) named.1 gone.1 (later_none t calls place quiet) by now bytes numbers there
 
 -- up to the token
-told_after : (calls : List ControllerCall) (n slow_at place : ℕ) → slow_at < place → place < n → IsHistoryFrom opening calls → AreNamed calls → tokens_of 1 (take n calls) ≡ controller.slow 1 ∷ [] → slice_get calls slow_at ≡ Some the_slow
+told_after : (shown : ℕ) (calls : List ControllerCall) (n slow_at place : ℕ) → slow_at < place → place < n → IsHistoryFrom opening calls → AreNamed calls → tokens_of 1 (take n calls) ≡ controller.slow 1 shown ∷ [] → slice_get calls slow_at ≡ Some (the_slow shown)
     → NoneBefore calls place → (by now bytes : ℕ) (numbers : Look) → slice_get calls place ≡ Some (record { client = by; action = controller.delay now bytes; told = Some numbers })
     → numbers ≡ look_with slow_numbers (after_delay slow_numbers now bytes).wait
-told_after [] n slow_at place later before history named tokens is_slow quiet by now bytes numbers there = absurd (cc there)
-told_after (t ∷ calls) zero slow_at place later before history named tokens is_slow quiet by now bytes numbers there = absurd (omega (arith, before))
-told_after (t ∷ calls) (suc n) slow_at zero later before history named tokens is_slow quiet by now bytes numbers there = absurd (omega (arith, later))
-told_after (t ∷ calls) (suc n) zero (suc place) later before history named tokens is_slow quiet by now bytes numbers there =
+told_after shown [] n slow_at place later before history named tokens is_slow quiet by now bytes numbers there = absurd (cc there)
+told_after shown (t ∷ calls) zero slow_at place later before history named tokens is_slow quiet by now bytes numbers there = absurd (omega (arith, before))
+told_after shown (t ∷ calls) (suc n) slow_at zero later before history named tokens is_slow quiet by now bytes numbers there = absurd (omega (arith, later))
+told_after shown (t ∷ calls) (suc n) zero (suc place) later before history named tokens is_slow quiet by now bytes numbers there =
     let is = some_same is_slow in
     let own : ((t.client == 1) && is_token t.action) ≡ true = subst (λ (u : ControllerCall). ((u.client == 1) && is_token u.action) ≡ true) (sym is) refl in
     let slow_now : numbers_after opening t.action ≡ slow_numbers = ap (λ (u : ControllerCall). numbers_after opening u.action) is in
-    told_slow calls n place (omega (arith, before)) (subst (λ (m : Numbers). IsHistoryFrom m calls) slow_now history.1) named.1 (after_one ((t.client == 1) && is_token t.action) t _ own tokens)
+    told_slow calls n place (omega (arith, before)) (subst (λ (m : Numbers). IsHistoryFrom m calls) slow_now history.1) named.1 (after_one shown ((t.client == 1) && is_token t.action) t _ own tokens)
     (later_none t calls place quiet) by now bytes numbers there
-told_after (t ∷ calls) (suc n) (suc slow_at) (suc place) later before history named tokens is_slow quiet by now bytes numbers there =
+told_after shown (t ∷ calls) (suc n) (suc slow_at) (suc place) later before history named tokens is_slow quiet by now bytes numbers there =
     elim (cases_Bool (is_token t.action)) [
-      | inl token ↦ absurd (none_is_slow calls n slow_at (after_one ((t.client == 1) && is_token t.action) t _ (is_own t named.0 token) tokens) (omega (arith, later, before)) is_slow)
+      | inl token ↦ absurd (none_is_slow shown calls n slow_at (after_one shown ((t.client == 1) && is_token t.action) t _ (is_own t named.0 token) tokens) (omega (arith, later, before)) is_slow)
       | inr plain ↦ (
           let same = looks_on opening t.action plain (quiet 0 (omega arith) t refl) in
-          told_after calls n slow_at place (omega (arith, later)) (omega (arith, before)) (subst (λ (m : Numbers). IsHistoryFrom m calls) same history.1) named.1
-          (after_another ((t.client == 1) && is_token t.action) t _ (and_false (t.client == 1) (is_token t.action) plain) tokens) is_slow (later_none t calls place quiet) by now bytes numbers there)
+          told_after shown calls n slow_at place (omega (arith, later)) (omega (arith, before)) (subst (λ (m : Numbers). IsHistoryFrom m calls) same history.1) named.1
+          (after_another shown ((t.client == 1) && is_token t.action) t _ (and_false (t.client == 1) (is_token t.action) plain) tokens) is_slow (later_none t calls place quiet) by now bytes numbers there)
     ]
 
 -- The groups: the one commit has one delay, and goes on only where that says that writes aren't held up
@@ -264,25 +266,27 @@ the_commit place decided = record { records = put_a1 ∷ []; options = noslow; s
 -- after these calls the client may make any others that don't commit
 record Slowed (trace : Trace) (q : Progress) : Type 0 where
   slow_at : ℕ
-  is_slow : slice_get trace.controller_calls slow_at ≡ Some the_slow
+  shown : ℕ
+  is_slow : slice_get trace.controller_calls slow_at ≡ Some (the_slow shown)
   place : ℕ
   decided : ℕ
   later : slow_at < place
   before : place < q.known
-  tokens : tokens_of 1 (take q.known trace.controller_calls) ≡ controller.slow 1 ∷ []
+  tokens : tokens_of 1 (take q.known trace.controller_calls) ≡ controller.slow 1 shown ∷ []
   attempts : q.attempts ≡ the_commit place decided ∷ []
 
 slowed_by : (trace : Trace) (q end : Progress) (more : List Call) (run : Run one_client trace 1 fresh (slow_calls ++ more) end) → q ≡ run.2.2.0 → Slowed trace q
 slowed_by trace q end more run is =
-    let taken = run.1.replies.1 in let begun = run.2.0 in let next = run.2.2.0 in
-    let slow_asked : run.0.asked ≡ controller.slow 1 ∷ [] = ap (λ (x : Progress). x.asked) taken.after in
-    let asked : begun.asked ≡ controller.slow 1 ∷ [] = ap (λ (x : Progress). x.asked) run.2.1.replies ∙ slow_asked in
+    let shown : ℕ = run.1.replies.1 in let taken = run.1.replies.2 in let begun = run.2.0 in let next = run.2.2.0 in
+    let slow_asked : run.0.asked ≡ controller.slow 1 shown ∷ [] = ap (λ (x : Progress). x.asked) taken.after in
+    let asked : begun.asked ≡ controller.slow 1 shown ∷ [] = ap (λ (x : Progress). x.asked) run.2.1.replies ∙ slow_asked in
     let pending : begun.pending ≡ put_a1 ∷ [] = ap (λ (x : Progress). x.pending) run.2.1.replies ∙ ap (λ (x : Progress). x.pending ++ put_a1 ∷ []) taken.after in
     let none : begun.attempts ≡ [] = ap (λ (x : Progress). x.attempts) run.2.1.replies ∙ ap (λ (x : Progress). x.attempts) taken.after in
     let a = is_accepted one_client trace 1 begun noslow 1 1 (put_a1 ∷ []) next run.2.2.1.replies in
     let knew = taken.known in let rises = run.2.1.rises in let low = a.asked.0 in
     subst (Slowed trace) (sym is) (record {
       slow_at = taken.place;
+      shown = shown;
       is_slow = taken.is_later.there;
       place = a.place;
       decided = a.decided;
@@ -303,7 +307,7 @@ never_slowed ended script trace attempts o l one q s mine =
     let there : slice_get attempts 0 ≡ Some (own ∷ []) = mine ∙ ap (λ h. Some h) s.attempts in
     let alone : length attempts ≡ 1 = l.count_attempts ∙ one in
     let on = goes_on trace.controller_calls l.groups attempts l.are_groups own alone there refl refl in
-    let told = told_after trace.controller_calls q.known s.slow_at s.place s.later s.before l.is_trace.controller_calls l.is_trace.tokens s.tokens s.is_slow
+    let told = told_after s.shown trace.controller_calls q.known s.slow_at s.place s.later s.before l.is_trace.controller_calls l.is_trace.tokens s.tokens s.is_slow
     (none_before trace.controller_calls l.groups attempts l.are_groups own alone there) on.by on.now on.bytes on.numbers on.at_place in
     let many = on.many in
     on.free (subst HoldUp (sym told) (inr (omega arith, first_waits on.now on.bytes (omega (arith, two_bytes, many)))))
@@ -319,6 +323,6 @@ not_ignored ended legal =
     let l = legal.legal in let one = l.each 0 _ _ refl refl in let right = one.2 in
     let run = run_of one_client legal.trace 1 _ _ right.end (λ e. cc) right.is_transcript in
     let next = run.2.2.0 in
-    let given_back = run.2.2.2.1.replies.1 in
+    let given_back = run.2.2.2.1.replies.2 in
     let same : right.end.attempts ≡ next.attempts = ap (λ (x : Progress). x.attempts) run.2.2.2.2 ∙ ap (λ (x : Progress). x.attempts) given_back.after in
     never_slowed ended slow_script legal.trace legal.attempts slow_ignored l refl next (slowed_by legal.trace next right.end (says_done unslow ∷ []) run refl) (one.1 ∙ ap (λ h. Some h) (right.commits ∙ same))

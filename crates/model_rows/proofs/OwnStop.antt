@@ -16,6 +16,7 @@ use Rattle.model_base.specs.Progress.{Progress, fresh, early_refusal}
 use Rattle.model_base.specs.Replies.{MayRefuse}
 use Rattle.model_base.specs.Runs.{Run, whole, commands_of}
 use Rattle.model_base.specs.Outcomes.{IsLegal, IsLegalTranscript}
+use Rattle.model_base.proofs.Shown.{heard_if_quiet}
 use Rattle.model_rows.specs.Examples.{put_a1, noslow}
 use Rattle.model_rows.specs.Runs.{one_client, used_up, own_stop_script, own_stop_calls, refused_in_its_own_stop, accepted_in_its_own_stop, failed_in_its_own_stop, full_in_its_own_stop}
 use Rattle.model_rows.proofs.Alone.{each_one, added}
@@ -36,9 +37,11 @@ looked_trace = record {
   entries = [];
   logged = [];
   controller_calls =
-      record { client = 1; action = controller.stop; told = None }
+      record { client = 1; action = controller.stop 0; told = None }
+      ∷ record { client = 1; action = controller.hear 0; told = None }
       ∷ record { client = 1; action = controller.look; told = Some one_stop }
-      ∷ record { client = 1; action = controller.unstop; told = None } ∷ [];
+      ∷ record { client = 1; action = controller.unstop 0; told = None }
+      ∷ record { client = 1; action = controller.hear 0; told = None } ∷ [];
   log_calls = [];
 }
 
@@ -47,16 +50,16 @@ refused_calls = own_stop_calls (refused (no.Incomplete 1 0 0))
 
 -- the client's progress after each call
 abbrev stopped : Progress
-stopped = record fresh { asked = controller.stop ∷ []; known = 1 }
+stopped = record fresh { asked = controller.stop 0 ∷ []; known = 2 }
 
 abbrev begun : Progress
 begun = added put_a1 stopped
 
 abbrev looked : Progress
-looked = record begun { known = 2 }
+looked = record begun { known = 3 }
 
 abbrev freed : Progress
-freed = record looked { asked = controller.stop ∷ controller.unstop ∷ []; known = 3 }
+freed = record looked { asked = controller.stop 0 ∷ controller.unstop 0 ∷ []; known = 5 }
 
 refused_transcript : IsLegalTranscript one_client looked_trace None 1 (commands_of refused_calls) refused_calls []
 unfolding varint_within
@@ -64,14 +67,14 @@ refused_transcript = record {
   end = freed;
   is_transcript = whole refl (
     stopped,
-    record { replies = (refl, record { place = 0; is_later = record { later = lit≤ tt; there = refl }; known = lit≤ tt; after = refl }); rises = lit≤ tt; within = lit≤ tt; tokens = refl; logs_rise = lit≤ tt; logs_within = lit≤ tt },
+    record { replies = (refl, 0, record { place = 0; is_later = record { later = lit≤ tt; there = refl }; had = lit≤ tt; said = lit≤ tt; heard_at = 1; most = 0; hears = record { later = lit≤ tt; there = refl }; known = lit≤ tt; after = refl }); rises = lit≤ tt; within = lit≤ tt; tokens = refl; logs_rise = lit≤ tt; logs_within = lit≤ tt },
     (
       begun,
       record { replies = refl; rises = lit≤ tt; within = lit≤ tt; tokens = refl; logs_rise = lit≤ tt; logs_within = lit≤ tt },
       (
         looked,
         record {
-          replies = (None, (refl, (1, 1, record { later = lit≤ tt; there = refl }, lit≤ tt, (refl, inl (lit≤ tt)))), refl, (λ stopping. refl), tt);
+          replies = (None, (refl, (1, 2, record { later = lit≤ tt; there = refl }, lit≤ tt, (refl, inl (lit≤ tt)))), refl, (λ stopping. refl), tt);
           rises = lit≤ tt;
           within = lit≤ tt;
           tokens = refl;
@@ -80,13 +83,15 @@ refused_transcript = record {
         },
         (
           freed,
-          record { replies = (refl, record { place = 2; is_later = record { later = lit≤ tt; there = refl }; known = lit≤ tt; after = refl }); rises = lit≤ tt; within = lit≤ tt; tokens = refl; logs_rise = lit≤ tt; logs_within = lit≤ tt },
+          record { replies = (refl, 0, record { place = 3; is_later = record { later = lit≤ tt; there = refl }; had = lit≤ tt; said = lit≤ tt; heard_at = 4; most = 0; hears = record { later = lit≤ tt; there = refl }; known = lit≤ tt; after = refl }); rises = lit≤ tt; within = lit≤ tt; tokens = refl; logs_rise = lit≤ tt; logs_within = lit≤ tt },
           refl,
         ),
       ),
     ),
   );
   accepted = refl;
+  shown = 0;
+  had = lit≤ tt;
   tokens = refl;
   commits = refl;
   statuses = tt;
@@ -96,7 +101,7 @@ refused_transcript = record {
 no_groups : AreGroups 1048576 looked_trace.controller_calls [] ([] ∷ [])
 no_groups = record {
   each = tt;
-  all = ((λ is. cc), ((λ is. cc), ((λ is. cc), tt)));
+  all = ((λ is. cc), ((λ is. cc), ((λ is. cc), ((λ is. cc), ((λ is. cc), tt)))));
   places = tt;
   commits = tt;
   apart = tt;
@@ -115,9 +120,10 @@ refused-legal = record {
       kept = refl;
       entries = tt;
       logged = record { cut = refl; none_empty = tt; runs = tt };
-      controller_calls = (refl, (refl, (refl, tt)));
+      controller_calls = (refl, (refl, (refl, (refl, (refl, tt)))));
+      heard = heard_if_quiet looked_trace.controller_calls (refl, (refl, (refl, (refl, (refl, tt)))));
       clients = tt;
-      tokens = ((λ is. (lit≤ tt, lit≤ tt)), ((λ is. cc), ((λ is. (lit≤ tt, lit≤ tt)), tt)));
+      tokens = ((λ is. (lit≤ tt, lit≤ tt)), ((λ is. cc), ((λ is. cc), ((λ is. (lit≤ tt, lit≤ tt)), ((λ is. cc), tt)))));
     };
     history = refl;
     clients = refl;
@@ -138,9 +144,9 @@ refused-legal = record {
 
 -- in no trace do these calls run, since the client holds a stop token where it commits
 module _ (settings : Settings) (trace : Trace) (end : Progress) where
-  holds_when : (reply : Reply) (run : Run settings trace 1 fresh (own_stop_calls reply) end) → (run.2.0.asked ≡ controller.stop ∷ []) × (run.2.0.pending ≡ put_a1 ∷ [])
+  holds_when : (reply : Reply) (run : Run settings trace 1 fresh (own_stop_calls reply) end) → (run.2.0.asked ≡ controller.stop run.1.replies.1 ∷ []) × (run.2.0.pending ≡ put_a1 ∷ [])
   holds_when reply run =
-      let stopping = run.1.replies.1.after in let adding = run.2.1.replies in (
+      let stopping = run.1.replies.2.after in let adding = run.2.1.replies in (
         ap (λ (x : Progress). x.asked) adding ∙ ap (λ (x : Progress). x.asked) stopping,
         ap (λ (x : Progress). x.pending) adding ∙ ap (λ (x : Progress). x.pending ++ put_a1 ∷ []) stopping,
       )

@@ -25,12 +25,12 @@ run_of settings trace client commands calls end other (cut_off front last rest s
 
 module _ (settings : Settings) (trace : Trace) (client : ℕ) (p : Progress) (how : WriteOptions) where
   by_checks : (a b : ℕ) (own : List Record) (q : Progress) (early : Option Refusal)
-      → MatchOption early (IsAttempted trace client p how (accepted a b own) q) (λ why. (accepted a b own ≡ refused why) × Stays p q) → IsAccepted trace.log_calls client p how a b own q
+      → MatchOption early (IsAttempted trace client p how (accepted a b own) q) (λ why. (accepted a b own ≡ refused why) × Stays p q) → IsAccepted trace.controller_calls trace.log_calls client p how a b own q
   by_checks a b own q None s = s
   by_checks a b own q (Some why) s = absurd (cc s.0)
 
   -- a commit that was answered `ok`
-  pub is_accepted : (a b : ℕ) (own : List Record) (q : Progress) → Commits settings trace client p how (accepted a b own) q → IsAccepted trace.log_calls client p how a b own q
+  pub is_accepted : (a b : ℕ) (own : List Record) (q : Progress) → Commits settings trace client p how (accepted a b own) q → IsAccepted trace.controller_calls trace.log_calls client p how a b own q
   is_accepted a b own q s = by_checks a b own q (early_refusal settings.families settings.batch_bytes (holds_stop p.asked) p.pending how) s
 
   -- a commit that passed the checks

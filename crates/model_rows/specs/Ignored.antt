@@ -1,11 +1,11 @@
 -- Runs in which a token isn't heeded, or a batch is acknowledged that the log hasn't.
-use Rattle.std.specs.Prelude.{ℕ, codes, false, List, [], ◌∷◌, None}
+use Rattle.std.specs.Prelude.{ℕ, codes, false, List, [], ◌∷◌, Some, None}
 use Rattle.model_base.specs.Batch.{Record}
 use Rattle.model_base.specs.declared.write.Refusal.TheVariants as no
-use Rattle.model_base.specs.Calls.{Command, add, commit, stop, slow, unslow, accepted, refused, done, Call, Outcome}
+use Rattle.model_base.specs.Calls.{Command, add, commit, get, stop, unstop, slow, unslow, accepted, refused, done, Call, Outcome}
 use Rattle.model_base.specs.LogContents.{GroupCall}
-use Rattle.model_rows.specs.Examples.{put_a1, put_b2, plain, noslow, key_a, key_b}
-use Rattle.model_rows.specs.Runs.{entry_at, adds, commits, one_commit}
+use Rattle.model_rows.specs.Examples.{put_a1, put_a2, put_b2, plain, noslow, key_a, key_b}
+use Rattle.model_rows.specs.Runs.{entry_at, adds, commits, reads, one_commit, stale_read}
 
 abbrev pub says_done : Command → Call
 says_done c = record { command = c; reply = done }
@@ -51,6 +51,21 @@ stopped_calls = adds put_a1 ∷ meets_stops 1 ∷ commits 1 put_a1 ∷ says_done
 abbrev pub others_stop_ignored : Outcome
 others_stop_ignored = record one_commit { transcripts = stopped_calls ∷ (says_done stop ∷ []) ∷ [] }
 
+-- client 1: `put a 1`, `commit noslow`, `commit`; client 2: `get a`, `stop`
+abbrev pub foreseen_script : List (List Command)
+foreseen_script = (add put_a1 ∷ commit noslow ∷ commit plain ∷ []) ∷ (get key_a ∷ stop ∷ []) ∷ []
+
+-- Client 1's batch is refused because of one stop, and is accepted then.
+abbrev pub refused_first_calls : List Call
+refused_first_calls = adds put_a1 ∷ meets_stops 1 ∷ commits 1 put_a1 ∷ []
+
+-- Client 2 reads that batch before it takes the only stop.
+abbrev pub foreseeing_calls : List Call
+foreseeing_calls = reads key_a 1 (Some (codes "1")) ∷ says_done stop ∷ []
+
+abbrev pub read_before_it_was_written : Outcome
+read_before_it_was_written = record one_commit { transcripts = refused_first_calls ∷ foreseeing_calls ∷ [] }
+
 -- `put a 1`, `commit`, `put b 2`, `commit`: both are accepted
 abbrev pub two_script : List (List Command)
 two_script = (add put_a1 ∷ commit plain ∷ add put_b2 ∷ commit plain ∷ []) ∷ []
@@ -71,3 +86,49 @@ two_commits = record one_commit {
 abbrev pub written_at_once : List GroupCall
 written_at_once =
     record { first = 1; batches = (put_a1 ∷ []) ∷ (put_b2 ∷ []) ∷ []; sync = false; failed = None } ∷ []
+
+-- client 1: `put a 1`, `commit`, `put a 2`, `commit`; client 2: `stop`, `get a`, `get a`, `unstop`
+abbrev pub through_commands : List Command
+through_commands = add put_a1 ∷ commit plain ∷ add put_a2 ∷ commit plain ∷ []
+
+abbrev pub through_script : List (List Command)
+through_script = through_commands ∷ (stop ∷ get key_a ∷ get key_a ∷ unstop ∷ []) ∷ []
+
+-- Both commits are accepted.
+abbrev pub through_calls : List Call
+through_calls = adds put_a1 ∷ commits 1 put_a1 ∷ adds put_a2 ∷ commits 2 put_a2 ∷ []
+
+-- While client 2 stops writes, it reads what was there before both, and then what the second one wrote.
+abbrev pub watching_calls : List Call
+watching_calls = says_done stop ∷ reads key_a 0 None ∷ reads key_a 2 (Some (codes "2")) ∷ []
+
+abbrev pub written_through_a_stop : Outcome
+written_through_a_stop = record stale_read {
+  transcripts = through_calls ∷ (says_done stop ∷ reads key_a 0 None ∷ reads key_a 2 (Some (codes "2"))
+      ∷ says_done unstop ∷ []) ∷ [];
+}
+
+-- or the token is given back at the client's end
+abbrev pub kept_script : List (List Command)
+kept_script = through_commands ∷ (stop ∷ get key_a ∷ get key_a ∷ []) ∷ []
+
+abbrev pub written_through_a_kept_stop : Outcome
+written_through_a_kept_stop = record stale_read { transcripts = through_calls ∷ watching_calls ∷ [] }
+
+-- client 1: `put a 1`, `commit`, `put b 2`, `commit`, `put a 2`, `commit noslow`; client 2: `stop`, `get a`
+abbrev pub blind_script : List (List Command)
+blind_script =
+    (add put_a1 ∷ commit plain ∷ add put_b2 ∷ commit plain ∷ add put_a2 ∷ commit noslow ∷ []) ∷ (stop ∷ get key_a ∷ [])
+    ∷ []
+
+-- Two commits are accepted, and the third one is refused because of one stop.
+abbrev pub stopped_at_last_calls : List Call
+stopped_at_last_calls =
+    adds put_a1 ∷ commits 1 put_a1 ∷ adds put_b2 ∷ commits 2 put_b2 ∷ adds put_a2 ∷ meets_stops 1 ∷ []
+
+-- While client 2 stops writes, it doesn't read the first batch.
+abbrev pub blind_calls : List Call
+blind_calls = says_done stop ∷ reads key_a 0 None ∷ []
+
+abbrev pub blind_in_its_own_stop : Outcome
+blind_in_its_own_stop = record two_commits { transcripts = stopped_at_last_calls ∷ blind_calls ∷ [] }

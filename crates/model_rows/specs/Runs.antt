@@ -279,16 +279,19 @@ stopping_calls = record { command = stop; reply = done } ∷ record { command = 
 abbrev pub waited_out : Outcome
 waited_out = record one_commit { transcripts = waiting_calls ∷ stopping_calls ∷ [] }
 
--- Client 2's stop, the delay of client 1's group, which reports that stop, and the stop given back
+-- Client 2's stop, the delay of client 1's group, which reports that stop, and the stop given back. Client 2 is shown
+-- nothing.
 abbrev pub told_of_a_stop : List ControllerCall
 told_of_a_stop =
-    record { client = 2; action = controller.stop; told = None }
+    record { client = 2; action = controller.stop 0; told = None }
+    ∷ record { client = 2; action = controller.hear 0; told = None }
     ∷ record {
       client = 1;
       action = controller.delay 0 17;
       told = Some (record { stops = 1; delays = 0; wait = 0 });
     }
-    ∷ record { client = 2; action = controller.unstop; told = None } ∷ []
+    ∷ record { client = 2; action = controller.unstop 0; told = None }
+    ∷ record { client = 2; action = controller.hear 0; told = None } ∷ []
 
 abbrev pub put_c3 : Record
 put_c3 = value None (codes "c") (codes "3")

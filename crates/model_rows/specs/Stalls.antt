@@ -20,7 +20,7 @@ one_slow = record { stops = 0; delays = 1; wait = 0 }
 
 -- client 2 stops writes
 abbrev pub stopping : ControllerCall
-stopping = record { client = 2; action = controller.stop; told = None }
+stopping = record { client = 2; action = controller.stop 0; told = None }
 
 -- client 1 asks for the delay of a group, and is told this
 abbrev pub asking : Look → ControllerCall
@@ -41,7 +41,7 @@ asked_before by = asking no_tokens ∷ stopping ∷ looking by one_stop ∷ []
 -- client 2 slows writes down, a group of this client has to wait, and then client 3 looks
 abbrev pub waited_by : ℕ → List ControllerCall
 waited_by by =
-    record { client = 2; action = controller.slow 1; told = None }
+    record { client = 2; action = controller.slow 1 0; told = None }
     ∷ record {
       client = by;
       action = controller.delay 1000 17;

@@ -15,8 +15,7 @@ use Rattle.model_base.specs.Progress.{batch_after}
 use Rattle.model_base.specs.Trace.{Settings}
 use Rattle.run_outcome.specs.Running.{IsReached}
 use Rattle.model_base.specs.Outcomes.{read_faults_in}
-use Rattle.model_base.specs.Tokens.{holds_stop}
-use Rattle.run_laws.specs.Accepting.{ReachesCommit, ReachesUpdates, PassesChecks, HasRoom, IsNotHeldUp, IsAccepted, IsGiven, asked_by}
+use Rattle.run_laws.specs.Accepting.{ReachesCommit, ReachesUpdates, PassesChecks, HasRoom, IsNotHeldUp, IsAccepted, IsGiven, stops_after}
 use Rattle.program_text.specs.Refusals.{damage, disk_fault, high_family}
 use Rattle.program_call.specs.declared.report.Form.{Form}
 use Rattle.program_call.specs.Logs.{LogsOfRun}
@@ -38,7 +37,7 @@ AcceptsCommits settings script o =
 abbrev pub GivesUpdates : calls.Outcome → Type 0
 GivesUpdates o = (client : ℕ) (before : List calls.Call) (s : ℕ) (reply : calls.Reply)
     → read_faults_in o.transcripts ≡ [] → ReachesUpdates o client before s reply
-    → holds_stop (asked_by before) ≡ false → IsGiven reply ⊎ (reply ≡ calls.no_memory)
+    → stops_after before ≡ false → IsGiven reply ⊎ (reply ≡ calls.no_memory)
 
 -- no write of the log failed, and no read of it by a client
 abbrev pub IsUnharmed : calls.Outcome → Type 0

@@ -243,22 +243,22 @@ module _ (settings : Settings) (trace : Trace) (client : ℕ) where
   token p r q never action s = unchanged p r q never s.after refl refl
 
   stops : (p : Progress) (r : Reply) (q : Progress) → Stops trace client p r q → KeepsBy p r q
-  stops p done q s = token p done q (λ why e. cc e) _ s.1
+  stops p done q s = token p done q (λ why e. cc e) _ s.2
   stops p held q s = stays p held q (λ why e. cc e) s.1
   stops p _ q s = absurd s
 
   unstops : (p : Progress) (r : Reply) (q : Progress) → Unstops trace client p r q → KeepsBy p r q
-  unstops p done q s = token p done q (λ why e. cc e) _ s.1
+  unstops p done q s = token p done q (λ why e. cc e) _ s.2
   unstops p not_held q s = stays p not_held q (λ why e. cc e) s.1
   unstops p _ q s = absurd s
 
   slows : (p : Progress) (rate : ℕ) (r : Reply) (q : Progress) → Slows trace client p rate r q → KeepsBy p r q
-  slows p rate done q s = token p done q (λ why e. cc e) _ s.1
+  slows p rate done q s = token p done q (λ why e. cc e) _ s.2
   slows p rate held q s = stays p held q (λ why e. cc e) s.1
   slows p rate _ q s = absurd s
 
   unslows : (p : Progress) (r : Reply) (q : Progress) → Unslows trace client p r q → KeepsBy p r q
-  unslows p done q s = token p done q (λ why e. cc e) _ s.1
+  unslows p done q s = token p done q (λ why e. cc e) _ s.2
   unslows p not_held q s = stays p not_held q (λ why e. cc e) s.1
   unslows p _ q s = absurd s
 

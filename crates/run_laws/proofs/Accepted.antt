@@ -18,8 +18,8 @@ use Rattle.model_base.specs.Script.{Script}
 use Rattle.model_base.proofs.Fates.{fate_with}
 use Rattle.run_laws.proofs.Plain.{AreSound}
 use Rattle.run_laws.proofs.Counts.{sequences_of, sound}
-use Rattle.run_laws.specs.Accepting.{HasRoom, HoldsNothingUp, asked_by, ReachesCommit, PassesChecks, IsAccepted}
-use Rattle.run_laws.proofs.Follows.{batch_by, tokens_by}
+use Rattle.run_laws.specs.Accepting.{HasRoom, HoldsNothingUp, stops_after, ReachesCommit, PassesChecks, IsAccepted}
+use Rattle.run_laws.proofs.Follows.{batch_by, stopping_by}
 use Rattle.run_laws.proofs.Splits.{Comes, comes_to}
 use Rattle.run_laws.proofs.Room.{takes_less}
 use Rattle.run_laws.proofs.Statuses.{sound_last, sound_run}
@@ -40,7 +40,7 @@ all_there families (family ∷ named) there =
     rw below (all_there families named there.1)
 
 no_early_refusal : (settings : Settings) (before : List Call) (how : WriteOptions) → PassesChecks settings before how
-    → early_refusal settings.families settings.batch_bytes (holds_stop (asked_by before)) (batch_after before) how ≡ None
+    → early_refusal settings.families settings.batch_bytes (stops_after before) (batch_after before) how ≡ None
 no_early_refusal settings before how checks =
     let some = checks.some in let within = checks.fits in
     let counted : (count_of (batch_after before) == 0) ≡ false = grind (arith, nat_tests) in
@@ -79,7 +79,7 @@ module _ (settings : Settings) (ended : ℕ) (script : Script) (o : Outcome) (cl
   attempt_accepted p q (refused why) room freed s a = absurd (never_refused p q.known why a.0 (room (ap (λ (x : Progress). x.mine) a.2)) freed (subst (λ (x : Progress). AreSound most x.attempts) a.2 s) a.1)
   attempt_accepted p q other room freed s a = absurd a
 
-  commit_accepted : (p q : Progress) → p.pending ≡ batch_after before → p.asked ≡ asked_by before → PassesChecks settings before how → (q.mine ≡ p.mine → most + count_of p.pending ≤ max_sequence)
+  commit_accepted : (p q : Progress) → p.pending ≡ batch_after before → holds_stop p.asked ≡ stops_after before → PassesChecks settings before how → (q.mine ≡ p.mine → most + count_of p.pending ≤ max_sequence)
       → (how.no_slowdown ≡ false) ⊎ HoldsNothingUp script → AreSound most q.attempts → Commits settings trace (client + 1) p how reply q → IsAccepted (batch_after before) reply
   commit_accepted p q batch tokens checks room freed s e =
       let none : early_refusal settings.families settings.batch_bytes (holds_stop p.asked) p.pending how ≡ None = rw (batch, tokens) (no_early_refusal settings before how checks) in
@@ -106,7 +106,7 @@ module _ (settings : Settings) (ended : ℕ) (script : Script) (o : Outcome) (cl
       let t = history.right_of settings ended script o legal client to.calls to.there in let right = t.right in
       let sound_at_end = statuses_sound t.attempts t.commands to.calls no_fault right in
       elim (comes_to settings trace (client + 1) t.commands to.calls before (record { command = commit how; reply = reply }) to.after right.end to.split right.is_transcript) [
-        | inl c ↦ inl (commit_accepted c.at c.next (batch_by settings trace (client + 1) fresh before c.at c.run) (tokens_by settings trace (client + 1) fresh before c.at c.run) checks
+        | inl c ↦ inl (commit_accepted c.at c.next (batch_by settings trace (client + 1) fresh before c.at c.run) (stopping_by settings trace (client + 1) fresh before c.at c.run) checks
             (λ same. has_room_at to right c same room) freed
             (sound_run most settings trace (client + 1) c.next c.kept right.end c.rest sound_at_end) c.step.replies)
         | inr none ↦ inr none

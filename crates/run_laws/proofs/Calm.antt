@@ -56,9 +56,9 @@ module _ (settings : Settings) (trace : Trace) (client : ℕ) where
       let r = run_of settings trace client commands calls end is in
       none_by_run fresh r.calls end (all_front (λ command. asks_to_wait command ≡ false) (commands_of r.calls) r.rest (subst AsksNothing r.of_commands quiet)) refl r.run
 
-  pub no_tokens_of : (commands : List Command) (calls : List Call) (end : Progress) → AsksNothing commands → IsTranscript settings trace client commands calls end
-      → tokens_of client trace.controller_calls ≡ end.asked ++ given_back end.asked → tokens_of client trace.controller_calls ≡ []
-  no_tokens_of commands calls end quiet is tokens = tokens ∙ ap (λ asked. asked ++ given_back asked) (none_asked commands calls end quiet is)
+  pub no_tokens_of : (commands : List Command) (calls : List Call) (end : Progress) (shown : ℕ) → AsksNothing commands → IsTranscript settings trace client commands calls end
+      → tokens_of client trace.controller_calls ≡ end.asked ++ given_back end.asked shown → tokens_of client trace.controller_calls ≡ []
+  no_tokens_of commands calls end shown quiet is tokens = tokens ∙ ap (λ asked. asked ++ given_back asked shown) (none_asked commands calls end quiet is)
 
 -- So the history has no tokens
 
@@ -107,6 +107,8 @@ delay_calm n now bytes calm =
 calm_after : (n : Numbers) (a : Action) → is_token a ≡ false → IsCalm n → IsCalm (numbers_after n a)
 calm_after n (controller.delay now bytes) plain calm = subst IsCalm (sym (delay_calm n now bytes calm)) calm
 calm_after n controller.look plain calm = calm
+calm_after n (controller.say shown) plain calm = calm
+calm_after n (controller.hear most) plain calm = calm
 calm_after n other plain calm = absurd (cc)
 
 answers_calm : (n : Numbers) (a : Action) → IsCalm n → (l : Look) → answer n a ≡ Some l → TellsCalm l

@@ -1,29 +1,39 @@
 -- A client's batch, its tokens and its accepted batches are those that its calls and replies make.
-use Rattle.std.proofs.Common.{◌≡◌, ℕ, List, [], ◌∷◌, ◌++◌, map, fold, Option, Some, None, MatchOption, sym, ap, ◌∙◌, subst}
+use Rattle.std.proofs.Common.{◌≡◌, ℕ, Bool, false, List, [], ◌∷◌, ◌++◌, map, fold, Option, Some, None, MatchOption, sym, ap, ◌∙◌, subst}
+use Rattle.std.proofs.lemmas.List.Sums.{fold-append}
 use Rattle.model_base.specs.declared.write.WriteOptions.{WriteOptions}
 use Rattle.model_base.specs.declared.key.Key.{Key}
 use Rattle.model_base.specs.declared.write.Refusal.{Refusal}
 use Rattle.model_base.specs.declared.write.Refusal.TheVariants as no
 use Rattle.model_base.specs.Batch.{Record}
 use Rattle.model_base.specs.History.{Entry}
+use Rattle.model_base.specs.Controller as controller
 use Rattle.model_base.specs.Controller.{Action}
-use Rattle.model_base.specs.Tokens.{holds_stop}
+use Rattle.model_base.specs.Tokens.{holds_stop, stop_after}
 use Rattle.model_base.specs.Trace.{Trace, Settings}
 use Rattle.model_base.specs.Progress.{Progress, next_entry, first_missing, early_refusal, added_by}
 use Rattle.model_base.specs.Runs.{Run}
 use Rattle.model_base.specs.Replies.{Adds, Clears, Stays, IsAttempted, Gets, GetsMany, Scans, Updates, Stops, Unstops, Slows, Unslows, Replies}
 use Rattle.model_base.specs.Calls.{Command, add, clear, commit, get, many, scan, updates, stop, unstop, slow, unslow, Reply, quiet, accepted, refused, found, found_each, rows, updates_found, read_failed, done, held, not_held, Call}
-use Rattle.run_laws.specs.Accepting.{asked_with}
+use Rattle.run_laws.specs.Accepting.{stopping_with}
 
 -- a client's accepted batches after a call
 abbrev pub mine_with : ℕ → Progress → Command → Reply → List Entry
 mine_with client p (commit how) (accepted first last own) = p.mine ++ next_entry client p.mine how first p.pending ∷ []
 mine_with client p other reply = p.mine
 
+-- its token calls after a call
+abbrev pub AsksWith : List Action → Command → Reply → List Action → Type 0
+AsksWith asked stop done after = (shown : ℕ) × (after ≡ asked ++ controller.stop shown ∷ [])
+AsksWith asked unstop done after = (shown : ℕ) × (after ≡ asked ++ controller.unstop shown ∷ [])
+AsksWith asked (slow rate) done after = (shown : ℕ) × (after ≡ asked ++ controller.slow rate shown ∷ [])
+AsksWith asked unslow done after = (shown : ℕ) × (after ≡ asked ++ controller.unslow shown ∷ [])
+AsksWith asked other reply after = after ≡ asked
+
 -- its batch, its tokens and its accepted batches after a call
 pub record Follows (client : ℕ) (p : Progress) (command : Command) (reply : Reply) (q : Progress) : Type 0 where
   pub batch : q.pending ≡ added_by p.pending command reply
-  pub asked : q.asked ≡ asked_with p.asked command reply
+  pub asked : AsksWith p.asked command reply q.asked
   pub mine : q.mine ≡ mine_with client p command reply
 
 batch_is : (q : Progress) (x : Progress) → q ≡ x → q.pending ≡ x.pending
@@ -79,22 +89,22 @@ module _ (trace : Trace) (client : ℕ) (p q : Progress) where
   by_updates settings n other r = absurd r
 
   by_stop : (reply : Reply) → Stops trace client p reply q → Follows client p stop reply q
-  by_stop done d = record { batch = batch_is q _ d.1.after; asked = asked_is q _ d.1.after; mine = mine_is q _ d.1.after }
+  by_stop done d = record { batch = batch_is q _ d.2.after; asked = (d.1, asked_is q _ d.2.after); mine = mine_is q _ d.2.after }
   by_stop held d = record { batch = batch_is q _ d.1; asked = asked_is q _ d.1; mine = mine_is q _ d.1 }
   by_stop other d = absurd d
 
   by_unstop : (reply : Reply) → Unstops trace client p reply q → Follows client p unstop reply q
-  by_unstop done d = record { batch = batch_is q _ d.1.after; asked = asked_is q _ d.1.after; mine = mine_is q _ d.1.after }
+  by_unstop done d = record { batch = batch_is q _ d.2.after; asked = (d.1, asked_is q _ d.2.after); mine = mine_is q _ d.2.after }
   by_unstop not_held d = record { batch = batch_is q _ d.1; asked = asked_is q _ d.1; mine = mine_is q _ d.1 }
   by_unstop other d = absurd d
 
   by_slow : (rate : ℕ) (reply : Reply) → Slows trace client p rate reply q → Follows client p (slow rate) reply q
-  by_slow rate done d = record { batch = batch_is q _ d.1.after; asked = asked_is q _ d.1.after; mine = mine_is q _ d.1.after }
+  by_slow rate done d = record { batch = batch_is q _ d.2.after; asked = (d.1, asked_is q _ d.2.after); mine = mine_is q _ d.2.after }
   by_slow rate held d = record { batch = batch_is q _ d.1; asked = asked_is q _ d.1; mine = mine_is q _ d.1 }
   by_slow rate other d = absurd d
 
   by_unslow : (reply : Reply) → Unslows trace client p reply q → Follows client p unslow reply q
-  by_unslow done d = record { batch = batch_is q _ d.1.after; asked = asked_is q _ d.1.after; mine = mine_is q _ d.1.after }
+  by_unslow done d = record { batch = batch_is q _ d.2.after; asked = (d.1, asked_is q _ d.2.after); mine = mine_is q _ d.2.after }
   by_unslow not_held d = record { batch = batch_is q _ d.1; asked = asked_is q _ d.1; mine = mine_is q _ d.1 }
   by_unslow other d = absurd d
 
@@ -121,8 +131,8 @@ follows settings trace client p unslow reply q a = by_unslow trace client p q re
 abbrev pub add_call : List Record → Call → List Record
 add_call records c = added_by records c.command c.reply
 
-abbrev pub ask_call : List Action → Call → List Action
-ask_call asked c = asked_with asked c.command c.reply
+abbrev pub stop_call : Bool → Call → Bool
+stop_call stopping c = stopping_with stopping c.command c.reply
 
 pub batch_by : (settings : Settings) (trace : Trace) (client : ℕ) (p : Progress) (calls : List Call) (q : Progress) → Run settings trace client p calls q → q.pending ≡ fold add_call p.pending calls
 batch_by settings trace client p [] q run = batch_is q p run
@@ -130,8 +140,16 @@ batch_by settings trace client p (c ∷ calls) q run =
     batch_by settings trace client run.0 calls q run.2
     ∙ ap (λ records. fold add_call records calls) (follows settings trace client p c.command c.reply run.0 run.1.replies).batch
 
-pub tokens_by : (settings : Settings) (trace : Trace) (client : ℕ) (p : Progress) (calls : List Call) (q : Progress) → Run settings trace client p calls q → q.asked ≡ fold ask_call p.asked calls
-tokens_by settings trace client p [] q run = asked_is q p run
-tokens_by settings trace client p (c ∷ calls) q run =
-    tokens_by settings trace client run.0 calls q run.2
-    ∙ ap (λ asked. fold ask_call asked calls) (follows settings trace client p c.command c.reply run.0 run.1.replies).asked
+-- whether the client holds a stop token after a call
+stopping_after : (asked : List Action) (command : Command) (reply : Reply) (after : List Action) → AsksWith asked command reply after → holds_stop after ≡ stopping_with (holds_stop asked) command reply
+stopping_after asked stop done after w = ap holds_stop w.1 ∙ fold-append stop_after false asked (controller.stop w.0 ∷ [])
+stopping_after asked unstop done after w = ap holds_stop w.1 ∙ fold-append stop_after false asked (controller.unstop w.0 ∷ [])
+stopping_after asked (slow rate) done after w = ap holds_stop w.1 ∙ fold-append stop_after false asked (controller.slow rate w.0 ∷ [])
+stopping_after asked unslow done after w = ap holds_stop w.1 ∙ fold-append stop_after false asked (controller.unslow w.0 ∷ [])
+stopping_after asked other reply after w = ap holds_stop w
+
+pub stopping_by : (settings : Settings) (trace : Trace) (client : ℕ) (p : Progress) (calls : List Call) (q : Progress) → Run settings trace client p calls q → holds_stop q.asked ≡ fold stop_call (holds_stop p.asked) calls
+stopping_by settings trace client p [] q run = ap holds_stop (asked_is q p run)
+stopping_by settings trace client p (c ∷ calls) q run =
+    stopping_by settings trace client run.0 calls q run.2
+    ∙ ap (λ stopping. fold stop_call stopping calls) (stopping_after p.asked c.command c.reply run.0.asked (follows settings trace client p c.command c.reply run.0 run.1.replies).asked)

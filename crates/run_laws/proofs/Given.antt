@@ -7,8 +7,8 @@ use Rattle.model_base.specs.Replies.{Updates}
 use Rattle.model_base.specs.Outcomes.{IsLegal, read_fault_of, read_faults_of, read_faults_in}
 use Rattle.model_base.specs.Calls.{updates, Reply, refused, updates_found, read_failed, no_memory, Call, Outcome}
 use Rattle.model_base.specs.Script.{Script}
-use Rattle.run_laws.specs.Accepting.{ReachesUpdates, IsGiven, asked_by}
-use Rattle.run_laws.proofs.Follows.{tokens_by}
+use Rattle.run_laws.specs.Accepting.{ReachesUpdates, IsGiven, stops_after}
+use Rattle.run_laws.proofs.Follows.{stopping_by}
 use Rattle.run_laws.proofs.Splits.{comes_to}
 use Rattle.run_laws.proofs.LegalRoom as history
 
@@ -38,7 +38,7 @@ given_by settings trace p q s (refused why) free none r = absurd (let bad : true
 given_by settings trace p q s (read_failed count) free none r = absurd (cc)
 given_by settings trace p q s other free none r = absurd r
 
-pub given_or_no_memory : (settings : Settings) (ended : ℕ) (script : Script) (o : Outcome) (client : ℕ) (before : List Call) (s : ℕ) (reply : Reply) → IsLegal settings ended script o → read_faults_in o.transcripts ≡ [] → ReachesUpdates o client before s reply → holds_stop (asked_by before) ≡ false
+pub given_or_no_memory : (settings : Settings) (ended : ℕ) (script : Script) (o : Outcome) (client : ℕ) (before : List Call) (s : ℕ) (reply : Reply) → IsLegal settings ended script o → read_faults_in o.transcripts ≡ [] → ReachesUpdates o client before s reply → stops_after before ≡ false
     → IsGiven reply ⊎ (reply ≡ no_memory)
 given_or_no_memory settings ended script o client before s reply legal none to free =
     let t = history.right_of settings ended script o legal client to.calls to.there in
@@ -47,6 +47,6 @@ given_or_no_memory settings ended script o client before s reply legal none to f
     let own : read_faults_of to.calls ≡ [] = none_at read_faults_of o.transcripts client to.calls none to.there in
     let here : read_fault_of reply ≡ [] = none_among (λ (c : Call). read_fault_of c.reply) before call to.after (ap read_faults_of (sym to.split) ∙ own) in
     elim (comes_to settings legal.trace (client + 1) t.commands to.calls before call to.after right.end to.split right.is_transcript) [
-      | inl c ↦ inl (given_by settings legal.trace c.at c.next s reply (ap holds_stop (tokens_by settings legal.trace (client + 1) fresh before c.at c.run) ∙ free) here c.step.replies)
+      | inl c ↦ inl (given_by settings legal.trace c.at c.next s reply (stopping_by settings legal.trace (client + 1) fresh before c.at c.run ∙ free) here c.step.replies)
       | inr is ↦ inr is
     ]

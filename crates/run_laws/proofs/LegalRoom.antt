@@ -76,7 +76,7 @@ module _ (settings : Settings) (ended : ℕ) (script : Script) (o : Outcome) (le
   none_of : HoldsNothingUp script → (i : ℕ) → i < length script → tokens_of (i + 1) trace.controller_calls ≡ []
   none_of quiet i within =
       let commands = there_is script i within in let t = transcript_of i commands.0 commands.1 in let right = t.right in
-      no_tokens_of settings trace (i + 1) commands.0 t.calls right.end (all_at AsksNothing script i commands.0 quiet commands.1) right.is_transcript right.tokens
+      no_tokens_of settings trace (i + 1) commands.0 t.calls right.end right.shown (all_at AsksNothing script i commands.0 quiet commands.1) right.is_transcript right.tokens
 
   pub calm : HoldsNothingUp script → HasNoTokens trace.controller_calls
   calm quiet =

@@ -83,22 +83,22 @@ module _ (client : ℕ) (p : Progress) (command : Command) (q : Progress) where
   by_done trace action d = let e = d.after in stays (ap (λ (x : Progress). x.pending) e) (ap (λ (x : Progress). x.mine) e) (ap (λ (x : Progress). x.attempts) e)
 
   by_stop : (trace : Trace) (reply : Reply) → Stops trace client p reply q → Moves client p command q
-  by_stop trace done d = by_done trace _ d.1
+  by_stop trace done d = by_done trace _ d.2
   by_stop trace held d = same d.1
   by_stop trace other d = absurd d
 
   by_unstop : (trace : Trace) (reply : Reply) → Unstops trace client p reply q → Moves client p command q
-  by_unstop trace done d = by_done trace _ d.1
+  by_unstop trace done d = by_done trace _ d.2
   by_unstop trace not_held d = same d.1
   by_unstop trace other d = absurd d
 
   by_slow : (trace : Trace) (rate : ℕ) (reply : Reply) → Slows trace client p rate reply q → Moves client p command q
-  by_slow trace rate done d = by_done trace _ d.1
+  by_slow trace rate done d = by_done trace _ d.2
   by_slow trace rate held d = same d.1
   by_slow trace rate other d = absurd d
 
   by_unslow : (trace : Trace) (reply : Reply) → Unslows trace client p reply q → Moves client p command q
-  by_unslow trace done d = by_done trace _ d.1
+  by_unslow trace done d = by_done trace _ d.2
   by_unslow trace not_held d = same d.1
   by_unslow trace other d = absurd d
 

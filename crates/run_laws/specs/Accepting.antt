@@ -5,12 +5,9 @@ use Rattle.std.specs.List.{AllByRecursion}
 use Rattle.model_base.specs.declared.write.WriteOptions.{WriteOptions}
 use Rattle.model_base.specs.Batch.{Record, count_of, size_of_batch}
 use Rattle.model_base.specs.History.{max_sequence}
-use Rattle.model_base.specs.Controller as controller
-use Rattle.model_base.specs.Controller.{Action}
-use Rattle.model_base.specs.Tokens.{holds_stop}
 use Rattle.model_base.specs.Trace.{Settings}
 use Rattle.model_base.specs.Progress.{added_by, batch_after, families_in}
-use Rattle.model_base.specs.Calls.{Command, commit, updates, stop, unstop, slow, unslow, Reply, accepted, updates_found, done, Call, Outcome}
+use Rattle.model_base.specs.Calls.{Command, commit, updates, stop, unstop, slow, Reply, accepted, updates_found, done, Call, Outcome}
 use Rattle.model_base.specs.Script.{Script}
 
 -- how many records a command commits of the client's current batch: all that count, if it is a commit, and otherwise
@@ -44,17 +41,15 @@ HoldsNothingUp script = AllByRecursion (AllByRecursion (λ command. asks_to_wait
 abbrev pub IsNotHeldUp : Script → WriteOptions → Type 0
 IsNotHeldUp script how = (how.no_slowdown ≡ false) ⊎ HoldsNothingUp script
 
--- The tokens that a client took and gave back, by its calls that were answered `done`: with one more call, and after
--- all of them
-abbrev pub asked_with : List Action → Command → Reply → List Action
-asked_with asked stop done = asked ++ controller.stop ∷ []
-asked_with asked unstop done = asked ++ controller.unstop ∷ []
-asked_with asked (slow rate) done = asked ++ controller.slow rate ∷ []
-asked_with asked unslow done = asked ++ controller.unslow ∷ []
-asked_with asked other reply = asked
+-- Whether a client holds a stop token, by its calls that were answered `done`: after one more call, and after all of
+-- them
+abbrev pub stopping_with : Bool → Command → Reply → Bool
+stopping_with stopping stop done = true
+stopping_with stopping unstop done = false
+stopping_with stopping other reply = stopping
 
-abbrev pub asked_by : List Call → List Action
-asked_by calls = fold (λ asked c. asked_with asked c.command c.reply) [] calls
+abbrev pub stops_after : List Call → Bool
+stops_after calls = fold (λ stopping c. stopping_with stopping c.command c.reply) false calls
 
 -- The client with this number (from 0) reaches a commit: after these calls it commits with these options, and gets this
 -- reply.
@@ -72,7 +67,7 @@ pub record PassesChecks (settings : Settings) (before : List Call) (how : WriteO
   pub fits : size_of_batch (batch_after before) ≤ settings.batch_bytes
   pub there : AllByRecursion (λ family. family < settings.families) (families_in (batch_after before))
   pub logged : how.sync ≡ true → how.no_log ≡ false
-  pub no_stop : holds_stop (asked_by before) ≡ false
+  pub no_stop : stops_after before ≡ false
 
 -- just this batch was accepted, under some run of sequences
 abbrev pub IsAccepted : List Record → Reply → Type 0

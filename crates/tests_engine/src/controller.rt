@@ -85,11 +85,11 @@ fn check_row<R: Wait + rt::Clock + Abort>(rt: &R, controller: &Stepped, pass: &m
     requires own { IsPassOf controller.now pass.old }
 {
     let mut clock = SteppedClock::new(row.moment);
-    let slowed = controller.slow(rt, pass, row.rate);
+    let slowed = controller.slow(rt, pass, row.rate, 0);
     let told = controller.delay(rt, pass, &mut clock, row.asked[0]);
     let second = controller.delay(rt, pass, &mut clock, row.asked[1]).wait();
     let third = controller.delay(rt, pass, &mut clock, row.asked[2]).wait();
-    let unslowed = controller.unslow(rt, pass);
+    let unslowed = controller.unslow(rt, pass, 0);
     let free = controller.delay(rt, pass, &mut clock, 17).wait();
     let answers = (slowed, told.stops(), told.delays(), unslowed);
     assert_eq!(rt; answers, (Ok(()), 0, 1, Ok(())));
@@ -114,13 +114,16 @@ fn a_client_holds_one_stop_token(rt: HostRuntime) -> Result<(), Fail> {
     let Some(mut pass) = last_of(&controller, passes, 2) else {
         panic!(rt; "no pass")
     };
-    let stopped = controller.stop(&rt, &mut pass);
+    let stopped = controller.stop(&rt, &mut pass, 7);
     let stops = controller.look(&rt, &mut pass).stops();
-    let again = controller.stop(&rt, &mut pass);
+    let again = controller.stop(&rt, &mut pass, 9);
     assert_eq!(rt; (stopped, stops, again), (Ok(()), 1, Err(Held)));
-    let unstopped = controller.unstop(&rt, &mut pass);
-    let none = controller.unstop(&rt, &mut pass);
-    assert_eq!(rt; (unstopped, none), (Ok(()), Err(NotHeld)));
+    let unstopped = controller.unstop(&rt, &mut pass, 3);
+    let none = controller.unstop(&rt, &mut pass, 3);
+    // The refused calls say nothing.
+    let note = controller.note(&mut pass);
+    let most = controller.shown_by(&note);
+    assert_eq!(rt; (unstopped, none, most), (Ok(()), Err(NotHeld), 7));
     Ok(())
 }
 
@@ -130,8 +133,8 @@ fn who_ends_slows_no_more(rt: HostRuntime) -> Result<(), Fail> {
     let Some(mut pass) = last_of(&controller, passes, 2) else {
         panic!(rt; "no pass")
     };
-    let slowed = controller.slow(&rt, &mut pass, 0);
-    controller.end(&rt, &mut pass);
+    let slowed = controller.slow(&rt, &mut pass, 0, 0);
+    controller.end(&rt, &mut pass, 0);
     let delays = controller.look(&rt, &mut pass).delays();
     assert_eq!(rt; (slowed, delays), (Ok(()), 0));
     let note = controller.note(&mut pass);
@@ -148,7 +151,7 @@ fn a_look_tells_who_was_held_up(rt: HostRuntime) -> Result<(), Fail> {
     };
     let mut clock = SteppedClock::new(1000);
     let (_, nobody) = controller.look_at_stall(&rt, &mut stopping);
-    let stopped = controller.stop(&rt, &mut stopping);
+    let stopped = controller.stop(&rt, &mut stopping, 0);
     let told = controller.delay(&rt, &mut writing, &mut clock, 17);
     let (look, held_up) = controller.look_at_stall(&rt, &mut stopping);
     assert_eq!(rt; (stopped, told.stops(), look.stops()), (Ok(()), 1, 1));
@@ -165,5 +168,24 @@ fn a_look_tells_who_was_held_up(rt: HostRuntime) -> Result<(), Fail> {
 fn opens_and_closes(rt: HostRuntime) -> Result<(), Fail> {
     let (controller, passes) = Stepped::open(rt.alloc(), 16)?;
     controller.close(&rt, passes);
+    Ok(())
+}
+
+#[test]
+fn who_takes_a_token_hears_what_was_said(rt: HostRuntime) -> Result<(), Fail> {
+    let (controller, passes) = Stepped::open(rt.alloc(), 2)?;
+    let Some((mut stopping, mut writing)) = last_two(&controller, passes, 2) else {
+        panic!(rt; "no passes")
+    };
+    controller.say(&rt, &mut writing, 5);
+    controller.say(&rt, &mut writing, 3);
+    let stopped = controller.stop(&rt, &mut stopping, 7);
+    let most = controller.gather(&mut stopping);
+    controller.hear(&rt, &mut stopping, most);
+    // Now the mark is 1, and so the next call that says something looks whether one token call is counted.
+    controller.say(&rt, &mut writing, 9);
+    let unstopped = controller.unstop(&rt, &mut stopping, 7);
+    let later = controller.gather(&mut stopping);
+    assert_eq!(rt; (stopped, most, unstopped, later), (Ok(()), 5, Ok(()), 9));
     Ok(())
 }

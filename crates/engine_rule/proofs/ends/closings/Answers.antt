@@ -7,6 +7,6 @@ use Rattle.engine_rule.proofs.ends.closings.Goals as goal
 
 pub returns : goal.returns
 returns c = record {
-  closing = λ settings kept ended s sights history accounts is show are legal calls_of within read. closing settings s.commits s.last s.fault s.published s.calls s.asked history is sights
-      (subst (λ (worked : List GroupCall). ShowTheLog worked sights) (worked_are settings.group_bytes is.in_groups.groups s.commits s.fault s.last s.calls is.written) show) accounts are.all s.reads are.each kept legal calls_of within read.right ended read.rose read.of_clients read.own read.counted;
+  closing = λ settings kept ended s sights history accounts is show are legal heard calls_of within read. closing settings s.commits s.last s.fault s.published s.calls s.asked history is sights
+      (subst (λ (worked : List GroupCall). ShowTheLog worked sights) (worked_are settings.group_bytes is.in_groups.groups s.commits s.fault s.last s.calls is.written) show) accounts are.all s.reads are.each kept legal heard calls_of within read.right ended read.rose read.of_clients read.own read.counted;
 }

@@ -6,7 +6,7 @@ pub returns-in-Ok-clause-goes : goal.returns-in-Ok-clause-goes
 returns-in-Ok-clause-goes g c = λ pending. record {
   reply = calls.done;
   shows = refl;
-  goes = c.slowdowns_are_steps.ensures.given_back (g.E.Engine.settings c.args.engine.now) (g.E.Engine.account c.args.client.now) pending (g.E.Engine.account c.unslow.new.client) c.in-Ok.ensures.done.0 c.in-Ok.ensures.done.1;
+  goes = c.slowdowns_are_steps.ensures.given_back (g.E.Engine.settings c.args.engine.now) (g.E.Engine.account c.args.client.now) pending (g.E.Engine.account c.unslow.new.client) c.in-Ok.ensures.done.1 c.in-Ok.ensures.done.0 c.in-Ok.ensures.done.2;
 }
 
 pub returns-in-Err-clause-goes : goal.returns-in-Err-clause-goes

@@ -8,7 +8,8 @@ use Rattle.engine_controller.specs.Looks.{look_of, look_at}
 use Rattle.engine_controller.specs.Numbers.{numbers_of}
 use Rattle.engine_controller.specs.Passes.{client_of, seen_by}
 use Rattle.engine_controller.proofs.Moves.{is_free_at, is_not_free}
-use Rattle.engine_controller.proofs.Tellings.{sees_follows, follows_makes, made_client, made_view, made_stop, made_slow, made_ends, ends_told}
+use Rattle.engine_controller.proofs.Owned.{own_calls}
+use Rattle.engine_controller.proofs.Tellings.{sees_follows, follows_makes, made_ends, ends_told}
 use Rattle.engine_controller.proofs.Unchanged.{unslowed}
 use Rattle.engine_controller.proofs.controller.Controller.delay.Goals as goal
 
@@ -24,16 +25,7 @@ pub returns-then-found-eq0-2-clause-own : goal.returns-then-found-eq0-2-clause-o
 returns-then-found-eq0-2-clause-own g c =
     let own = c.requires.own in
     let told = c.ask_unslowed-found.ensures in
-    let made = told.asks.made (is_free_at c.ask_unslowed-found.result c.if-found-eq0.true c.if-found-eq0-2.true) in (
-      record {
-        cell = told.cell ∙ own.cell;
-        view = made_view _ _ _ _ made;
-        number = own.number ∙ sym (made_client _ _ _ _ made);
-        stopping = own.stopping ∙ sym (made_stop _ _ _ _ made);
-        slowing = own.slowing ∙ sym (made_slow _ _ _ _ made);
-      },
-      made_client _ _ _ _ made,
-    )
+    own_calls _ _ _ _ _ own (told.cell ∙ own.cell) (told.asks.made (is_free_at c.ask_unslowed-found.result c.if-found-eq0.true c.if-found-eq0-2.true)) refl refl refl refl
 
 pub returns-then-found-eq0-2-clause-asked : goal.returns-then-found-eq0-2-clause-asked
 returns-then-found-eq0-2-clause-asked g c =
@@ -55,16 +47,8 @@ returns-clause-own g c =
     let asked = c.ask_unslowed-found.ensures in
     let told = c.call.ensures in
     let busy = is_not_free c.ask_unslowed-found.result c.else-found-eq0.either in
-    let made = follows_makes _ _ _ _ _ (sees_follows _ _ _ _ (asked.asks.other busy)) told.made.1 in (
-      record {
-        cell = told.cell ∙ asked.cell ∙ own.cell;
-        view = made_view _ _ _ _ made;
-        number = own.number ∙ sym (made_client _ _ _ _ made);
-        stopping = own.stopping ∙ sym (made_stop _ _ _ _ made);
-        slowing = own.slowing ∙ sym (made_slow _ _ _ _ made);
-      },
-      made_client _ _ _ _ made,
-    )
+    let made = follows_makes _ _ _ _ _ (sees_follows _ _ _ _ (asked.asks.other busy)) told.made.1 in
+    own_calls _ _ _ _ _ own (told.cell ∙ asked.cell ∙ own.cell) made told.made.3 refl refl refl
 
 pub returns-clause-asked : goal.returns-clause-asked
 returns-clause-asked g c =
@@ -74,4 +58,4 @@ returns-clause-asked g c =
     let busy = is_not_free c.ask_unslowed-found.result c.else-found-eq0.either in
     let told = c.call.ensures.made in
     let made = follows_makes _ _ _ _ _ (sees_follows _ _ _ _ (c.ask_unslowed-found.ensures.asks.other busy)) told.1 in
-    (now, c.now-now.ensures.last, ends_told (client_of old) (seen_by old) (delay now bytes) (look_at (numbers_of told.0) (delay now bytes)) (look_of c.call.result) (history_of (seen_in (cell_view c.call.new.seat))) told.2 (made_ends _ _ _ _ made))
+    (now, c.now-now.ensures.last, ends_told (client_of old) (seen_by old) (delay now bytes) (look_at (numbers_of told.0) (delay now bytes)) (look_of c.call.result.0) (history_of (seen_in (cell_view c.call.new.seat))) told.2 (made_ends _ _ _ _ made))

@@ -6,5 +6,5 @@ use Rattle.engine_controller.proofs.controller.Controller.delay.Given as goal
 abbrev pub ghosts-ask_unslowed : goal.ghosts-ask_unslowed
 ghosts-ask_unslowed g a = record {
   call = Delay (unwrap_or (g.Time.Clock.last a.clock.now) 0) a.bytes;
-  found = record { stops = 0; delays = 0; rate = 1; credit = 0; next = 0; held_up = 0 };
+  found = record { stops = 0; delays = 0; rate = 1; credit = 0; next = 0; held_up = 0; shown = 0; tokens = 0 };
 }

@@ -12,9 +12,9 @@ returns-clause-tokens g c =
     let s = c.unstop.ensures in
     let w = c.unslow.ensures in
     ap (λ n. tokens_of n after) (w.own.1 ∙ s.own.1)
-    ∙ gave_both (client_of c.args.pass.now) seen middle after
-    (gives_stop c.unstop.result c.unslow.result _ _ seen middle after s.own.1 s.done s.not_held w.done w.not_held)
-    (gives_slow c.unstop.result c.unslow.result _ _ seen middle after s.own.1 s.done s.not_held w.done w.not_held)
+    ∙ gave_both (client_of c.args.pass.now) c.args.shown seen middle after
+    (gives_stop c.unstop.result c.unslow.result _ _ c.args.shown seen middle after s.own.1 s.done s.not_held w.done w.not_held)
+    (gives_slow c.unstop.result c.unslow.result _ _ c.args.shown seen middle after s.own.1 s.done s.not_held w.done w.not_held)
 
 pub returns-clause-calls : goal.returns-clause-calls
 returns-clause-calls g c =
@@ -24,6 +24,6 @@ returns-clause-calls g c =
     let s = c.unstop.ensures in
     let w = c.unslow.ensures in (
       middle,
-      gives_stop c.unstop.result c.unslow.result _ _ seen middle after s.own.1 s.done s.not_held w.done w.not_held,
-      gives_slow c.unstop.result c.unslow.result _ _ seen middle after s.own.1 s.done s.not_held w.done w.not_held,
+      gives_stop c.unstop.result c.unslow.result _ _ c.args.shown seen middle after s.own.1 s.done s.not_held w.done w.not_held,
+      gives_slow c.unstop.result c.unslow.result _ _ c.args.shown seen middle after s.own.1 s.done s.not_held w.done w.not_held,
     )

@@ -1,4 +1,4 @@
-use Rattle.std.proofs.Common.{sym, ◌∙◌}
+use Rattle.std.proofs.Common.{refl, ◌∙◌}
 use Rattle.crossbeam_utils.specs.Seq.{cell_view}
 use Rattle.model_base.specs.Controller.{look}
 use Rattle.engine_controller.specs.Rule.{seen_in, history_of}
@@ -7,7 +7,8 @@ use Rattle.engine_controller.specs.Numbers.{numbers_of}
 use Rattle.engine_controller.specs.Passes.{client_of, seen_by}
 use Rattle.engine_controller.proofs.Moves.{looks_turn}
 use Rattle.engine_controller.proofs.Stalls.{stalled, found_last}
-use Rattle.engine_controller.proofs.Tellings.{made_client, made_view, made_stop, made_slow, made_ends, ends_told}
+use Rattle.engine_controller.proofs.Owned.{own_calls}
+use Rattle.engine_controller.proofs.Tellings.{made_ends, ends_told}
 use Rattle.engine_controller.proofs.controller.Controller.look_at_stall.Goals as goal
 
 pub load-found-requires : goal.load-found-requires
@@ -19,16 +20,7 @@ pub returns-clause-own : goal.returns-clause-own
 returns-clause-own g c =
     let own = c.requires.own in
     let told = c.load-found.ensures in
-    let made = told.rule in (
-      record {
-        cell = told.cell ∙ own.cell;
-        view = made_view _ _ _ _ made;
-        number = own.number ∙ sym (made_client _ _ _ _ made);
-        stopping = own.stopping ∙ sym (made_stop _ _ _ _ made);
-        slowing = own.slowing ∙ sym (made_slow _ _ _ _ made);
-      },
-      made_client _ _ _ _ made,
-    )
+    own_calls _ _ _ _ _ own (told.cell ∙ own.cell) told.rule refl refl refl refl
 
 pub returns-clause-asked : goal.returns-clause-asked
 returns-clause-asked g c =

@@ -109,7 +109,7 @@ returns g c kept had =
       own = stands.counted.own;
       counted = stands.counted.no_fault;
     } in
-    let closed = c.closings.ensures.closing settings kept (faults_of (leadership.held.value.path.log)) standing (sights_in L.0) calls accounts stands.consistent stands.shown theirs whole.legal (are_calls meaning e cs all calls whole) ended.2 right in
+    let closed = c.closings.ensures.closing settings kept (faults_of (leadership.held.value.path.log)) standing (sights_in L.0) calls accounts stands.consistent stands.shown theirs whole.legal whole.heard (are_calls meaning e cs all calls whole) ended.2 right in
     subst (λ (h : Held _ _ _). HasOneTrace settings kept (faults_of (h.path.log)) accounts h.path.last (fault_of h.path.log) (λ made. Wrote (opened_log e) made h.path.log)) (sym c.into_inner-path.ensures) (
       closed.0,
       closed.1,

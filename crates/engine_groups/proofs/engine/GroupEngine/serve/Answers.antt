@@ -1,4 +1,4 @@
-use Rattle.std.proofs.Common.{◌≡◌, ◌≤◌, ◌<◌, ◌-◌, ℕ, Bool, false, IfSome, List, [], ◌∷◌, ◌++◌, length, refl, sym, ap, ◌∙◌, subst, take, drop, vec_capacity, arith}
+use Rattle.std.proofs.Common.{◌≡◌, ◌≤◌, ◌<◌, ◌-◌, ℕ, Bool, false, true≢false, IfSome, List, [], ◌∷◌, ◌++◌, length, refl, sym, ap, ◌∙◌, subst, take, drop, vec_capacity, arith}
 use Rattle.std.specs.List.{AllByRecursion, AllZip}
 use Rattle.std.specs.declared.snapshot.Snapshot.{Snapshot}
 use mathlib.Core.List.{IsPrefix}
@@ -18,7 +18,7 @@ use Rattle.engine_parts.specs.declared.requests.Delay.{Delay}
 use Rattle.engine_parts.specs.declared.requests.Request.{Request}
 use Rattle.engine_parts.specs.declared.requests.Answer.{Answer}
 use Rattle.engine_parts.specs.Asking.{HasAskedFor, OnlyLooks, all_seen}
-use Rattle.engine_parts.specs.Handled.{EndsInDelay, HandsBack, InOrder, IsDelayed, IsHeldUp, IsNoted, IsNotedAs, commit_requests_of, handled_with, noted_in, seen_at, went_at, heard_at}
+use Rattle.engine_parts.specs.Handled.{EndsInDelay, HandsBack, InOrder, IsHeldUp, IsNoted, IsNotedAs, commit_requests_of, handled_with, seen_at, went_at, heard_at}
 use Rattle.engine_parts.specs.LogLaw.{LogCovers, Past}
 use Rattle.engine_parts.specs.Led.{AreAlike, GoesOnWith, IsLedGroup, LeadsBy}
 use Rattle.engine_parts.specs.Numbering.{AreHelpers, others_in}
@@ -26,12 +26,12 @@ use Rattle.engine_parts.specs.Staged.{IsStaged, published_with}
 use Rattle.engine_parts.specs.declared.logging.LogPath.{LogPath}
 use Rattle.engine_groups.specs.declared.leader.Held.{Held}
 use Rattle.engine_groups.proofs.Members.{beside_where, others_unnoted}
-use Rattle.engine_parts.proofs.Serves.{as_many, asked_after, asked_delays, asked_is, asked_sees, asked_shown, back_unnoted, delayed_all, first_flag, held_at, held_back, held_order, held_shown, led_unnoted, looks_sees, order_unnoted, proceeds, put_back, replies_at, replies_shown, stands_by, stands_held_up, stands_noted}
+use Rattle.engine_parts.proofs.Serves.{as_many, asked_after, asked_delays, asked_ends, asked_is, asked_sees, asked_shown, back_unnoted, delayed_all, first_flag, held_at, held_back, held_order, held_shown, led_unnoted, looks_sees, order_unnoted, proceeds, put_back, replies_at, replies_shown, stands_by, stands_held_up, stands_noted}
 use Rattle.engine_parts.proofs.Noting.{noted_at, noted_back, noted_order, noted_runs, noted_staged, noted_stands, put_noted}
 use Rattle.engine_parts.proofs.Staging.{laid, no_runs_held}
 use Rattle.engine_parts.proofs.Standing.{last_low}
 use Rattle.engine_groups.proofs.Turning.{is_none_by}
-use Rattle.engine_parts.proofs.Views.{Saw, prefix_same, unseen_commits}
+use Rattle.engine_parts.proofs.Views.{WasAsked, prefix_same, unseen_commits}
 use Rattle.engine_groups.proofs.engine.GroupEngine.serve.Goals as goal
 
 -- takes the place of a table's `our_turn`, where only the log matters
@@ -83,7 +83,7 @@ may_go_on-proceeds-requires-clause-engine g c = c.requires.served.seats.is_engin
 pub may_go_on-proceeds-requires-clause-pass : goal.may_go_on-proceeds-requires-clause-pass
 may_go_on-proceeds-requires-clause-pass g c =
     let A = c.ask-look.ensures in let n : Look = look_of c.ask-look.result in let known : List ControllerCall = seen_by c.ask-look.new.pass in let h = A.asked in
-    (A.pass.0, subst (λ (k : ℕ). EndsInDelay k n known) (sym A.pass.1) (h.before, h.now, _, h.is))
+    (A.pass.0, subst (λ (k : ℕ). EndsInDelay k n known) (sym A.pass.1) (asked_ends _ _ _ _ _ _ h))
 
 pub may_go_on-proceeds-requires-clause-leads : goal.may_go_on-proceeds-requires-clause-leads
 may_go_on-proceeds-requires-clause-leads g c =
@@ -190,7 +190,7 @@ returns-then-not-proceeds-clause-served g c =
     let same_now : seen_by c.note_all.new.pass ≡ known = c.note_all.ensures.pass.2 ∙ still in
     let begins : IsPrefix (seen_at d) (went_at d) = subst (IsPrefix (seen_at d)) (is ∙ sym went_is) (prefix_same (seen_at d)) in
     let shows : IsPrefix (went_at d) went = subst (IsPrefix (went_at d)) (went_is ∙ sym still) (prefix_same (went_at d)) in
-    let late : (x : ℕ × Request) → Saw h.before x → IsDelayed (noted_in x.1.note) (seen_at d) n = λ x saw. subst (λ (l : List ControllerCall). IsDelayed (noted_in x.1.note) l n) (sym is) (asked_shown k was asked known xs n h x saw) in
+    let late : AllByRecursion (WasAsked (seen_at d) n) xs = subst (λ (l : List ControllerCall). AllByRecursion (WasAsked l n) xs) (sym is) (asked_shown k was asked known xs n h) in
     record {
       seats = record {
         is_engine = q.is_engine;
@@ -210,7 +210,7 @@ returns-then-not-proceeds-clause-served g c =
       walk_room = c.may_go_on-proceeds.ensures.leads.1;
       in_order = noted_order e.controller went xs ys zs with_notes (held_order d n xs ys zip);
       handed_back = noted_back e.controller went xs ys zs with_notes (held_back d n xs ys zip);
-      shown = held_shown e.controller d n went begins shows no.1 h.before late xs ys zs zip with_notes may h.members;
+      shown = held_shown e.controller d n went begins shows no.1 xs ys zs zip with_notes may late;
       taken = R.taken;
       requests_room = R.room.0;
       replies_room = R.room.1;
@@ -323,7 +323,7 @@ returns-clause-served g c =
     let same_now : seen_by c.note_all-2.new.pass ≡ seen_by c.note.new.pass = c.note_all-2.ensures.pass.2 in
     let begins : IsPrefix (seen_at later) (went_at later) = subst (λ (z : List ControllerCall × List ControllerCall). IsPrefix z.0 z.1) (λ i. (sym later_is i, sym later_went i)) looks.begins in
     let shows : IsPrefix (went_at later) went = subst (IsPrefix (went_at later)) later_went (prefix_same (went_at later)) in
-    let late : (x : ℕ × Request) → Saw h.before x → IsDelayed (noted_in x.1.note) (seen_at later) n = λ x saw. subst (λ (l : List ControllerCall). IsDelayed (noted_in x.1.note) l n) (sym later_is) (asked_shown k was asked known xs n h x saw) in
+    let late : AllByRecursion (WasAsked (seen_at later) n) xs = subst (λ (l : List ControllerCall). AllByRecursion (WasAsked l n) xs) (sym later_is) (asked_shown k was asked known xs n h) in
     record {
       seats = record {
         is_engine = q.is_engine;
@@ -350,7 +350,7 @@ returns-clause-served g c =
       walk_room = c.may_go_on-proceeds.ensures.leads.1;
       in_order = noted_order e.controller went xs ys zs with_notes (order_unnoted xs ys (subst (λ l. InOrder l ys) left_is H.replies.0));
       handed_back = noted_back e.controller went xs ys zs with_notes (back_unnoted xs ys (subst (λ l. AllByRecursion HandsBack (handled_with l ys)) left_is H.replies.1));
-      shown = replies_shown e.controller later went begins shows xs ys zs H.replies.2 with_notes (delayed_all h.before (seen_at later) n late xs h.members);
+      shown = replies_shown e.controller later went begins shows xs ys zs H.replies.2 with_notes (delayed_all (seen_at later) n xs late);
       taken = H.taken.0;
       requests_room = H.room.0;
       replies_room = H.room.3;
@@ -435,7 +435,7 @@ returns-clause-waited g c =
       known = known;
       numbers = n;
       begins = subst (IsPrefix known) (sym same_now) looks.begins;
-      delayed = (h.before, h.now, _, h.is);
+      delayed = asked_ends k was asked known xs n h;
       earlier = delays_of k was;
       newest = ap (delays_of k) same_now ∙ (looks.delays ∙ asked_delays k was asked known xs n h);
       waited = λ alike. subst (λ (z : ℕ × ℕ). HasPaused z.0 n.wait z.1) (λ i. (clock_was i, clock_is i)) (P.waited (sym flag ∙ first_alike alike));
@@ -460,10 +460,10 @@ returns-then-not-proceeds-clause-waited g c =
       known = known;
       numbers = n;
       begins = subst (IsPrefix known) (sym same_now) (prefix_same known);
-      delayed = (h.before, h.now, _, h.is);
+      delayed = asked_ends k was asked known xs n h;
       earlier = delays_of k was;
       newest = ap (delays_of k) same_now ∙ asked_delays k was asked known xs n h;
-      waited = λ alike. (let may = sym flag ∙ first_alike alike in let hasty = no.0 in absurd (cc (may, hasty)));
+      waited = λ alike. absurd (true≢false (sym no.0 ∙ (sym flag ∙ first_alike alike)));
     }
 
 pub returns-clause-beside : goal.returns-clause-beside

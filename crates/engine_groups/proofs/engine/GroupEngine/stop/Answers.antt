@@ -1,17 +1,29 @@
-use Rattle.std.proofs.Common.{true, false, refl}
+use Rattle.std.proofs.Common.{true, false, ap, arith, refl}
 use Rattle.model_base.specs.Controller as controller
 use Rattle.model_base.specs.Tokens.{holds_stop}
-use Rattle.engine_groups.proofs.ClientMoves.{asks_if, keeps_if, on_err, on_ok, pass_moved, token_delays}
+use Rattle.engine_controller.specs.Delays.{delays_of}
+use Rattle.engine_groups.proofs.ClientMoves.{call_moved, pass_moved}
+use Rattle.engine_groups.proofs.TokenCalls.{asks_if, refused}
 use Rattle.engine_groups.proofs.engine.GroupEngine.stop.Goals as goal
 
-pub returns-clause-belongs : goal.returns-clause-belongs
-returns-clause-belongs g c =
-    let E = c.stop.ensures in
-    pass_moved g.Versions.Table c.args.self.now c.args.client.now c.requires c.stop.new.pass E.own.0 E.own.1
-    (token_delays g.Versions.Table c.args.self.now c.args.client.now c.requires _ _ c.stop.result c.stop.new.pass controller.stop refl E.done E.held)
+pub hear-requires : goal.hear-requires
+hear-requires g c =
+    let E = c.stop.ensures in let v = c.say-shown.new.client in
+    call_moved g.Versions.Table c.args.self.now v c.say-shown.ensures.belongs c.stop.new.pass (controller.stop c.say-shown.result) _ E.own.0 E.own.1 c.in_ok-stop.ensures.done.1 refl
 
 pub returns-clause-done : goal.returns-clause-done
-returns-clause-done g c = on_ok c.stop.result (λ h. asks_if g.Versions.Table c.args.self.now c.args.client.now c.requires c.stop.new.pass controller.stop h.1 holds_stop false refl h.0) c.stop.ensures.done
+returns-clause-done g c =
+    let Y = c.say-shown in let H = c.hear.ensures in let done = c.in_ok-stop.ensures.done in
+    let t = asks_if g.Versions.Table c.args.self.now c.args.client.now Y.new.client Y.ensures.keeps Y.ensures.belongs Y.result Y.ensures.said.0 Y.ensures.said.1 c.stop.new.pass c.stop.ensures.own.1 (controller.stop c.say-shown.result) done.1 c.hear.new.client H.keeps H.heard holds_stop false refl (omega arith) done.0 in
+    (t.0, Y.result, t.1)
 
-pub returns-clause-held : goal.returns-clause-held
-returns-clause-held g c = on_err c.stop.result (λ h. keeps_if g.Versions.Table c.args.self.now c.args.client.now c.requires c.stop.new.pass holds_stop true h.0 h.1) c.stop.ensures.held
+-- it was refused, and nothing was called
+pub returns-in_err-stop-clause-belongs : goal.returns-in_err-stop-clause-belongs
+returns-in_err-stop-clause-belongs g c =
+    let E = c.stop.ensures in let v = c.say-shown.new.client in let same = c.in_err-stop.ensures.held.1 in
+    pass_moved g.Versions.Table c.args.self.now v c.say-shown.ensures.belongs c.stop.new.pass E.own.0 E.own.1 (ap (delays_of v.number) same)
+
+pub returns-in_err-stop-clause-held : goal.returns-in_err-stop-clause-held
+returns-in_err-stop-clause-held g c =
+    let Y = c.say-shown in let same = c.in_err-stop.ensures.held in
+    refused g.Versions.Table c.args.self.now c.args.client.now Y.new.client Y.ensures.keeps Y.ensures.belongs _ holds_stop true c.stop.new.pass same.0 same.1

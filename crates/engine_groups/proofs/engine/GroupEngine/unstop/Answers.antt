@@ -1,17 +1,29 @@
-use Rattle.std.proofs.Common.{true, false, refl}
+use Rattle.std.proofs.Common.{true, false, ap, arith, refl}
 use Rattle.model_base.specs.Controller as controller
 use Rattle.model_base.specs.Tokens.{holds_stop}
-use Rattle.engine_groups.proofs.ClientMoves.{asks_if, keeps_if, on_err, on_ok, pass_moved, token_delays}
+use Rattle.engine_controller.specs.Delays.{delays_of}
+use Rattle.engine_groups.proofs.ClientMoves.{call_moved, pass_moved}
+use Rattle.engine_groups.proofs.TokenCalls.{asks_if, refused}
 use Rattle.engine_groups.proofs.engine.GroupEngine.unstop.Goals as goal
 
-pub returns-clause-belongs : goal.returns-clause-belongs
-returns-clause-belongs g c =
-    let E = c.unstop.ensures in
-    pass_moved g.Versions.Table c.args.self.now c.args.client.now c.requires c.unstop.new.pass E.own.0 E.own.1
-    (token_delays g.Versions.Table c.args.self.now c.args.client.now c.requires _ _ c.unstop.result c.unstop.new.pass controller.unstop refl E.done E.not_held)
+pub hear-requires : goal.hear-requires
+hear-requires g c =
+    let E = c.unstop.ensures in let v = c.say-shown.new.client in
+    call_moved g.Versions.Table c.args.self.now v c.say-shown.ensures.belongs c.unstop.new.pass (controller.unstop c.say-shown.result) _ E.own.0 E.own.1 c.in_ok-unstop.ensures.done.1 refl
 
 pub returns-clause-done : goal.returns-clause-done
-returns-clause-done g c = on_ok c.unstop.result (λ h. asks_if g.Versions.Table c.args.self.now c.args.client.now c.requires c.unstop.new.pass controller.unstop h.1 holds_stop true refl h.0) c.unstop.ensures.done
+returns-clause-done g c =
+    let Y = c.say-shown in let H = c.hear.ensures in let done = c.in_ok-unstop.ensures.done in
+    let t = asks_if g.Versions.Table c.args.self.now c.args.client.now Y.new.client Y.ensures.keeps Y.ensures.belongs Y.result Y.ensures.said.0 Y.ensures.said.1 c.unstop.new.pass c.unstop.ensures.own.1 (controller.unstop c.say-shown.result) done.1 c.hear.new.client H.keeps H.heard holds_stop true refl (omega arith) done.0 in
+    (t.0, Y.result, t.1)
 
-pub returns-clause-not_held : goal.returns-clause-not_held
-returns-clause-not_held g c = on_err c.unstop.result (λ h. keeps_if g.Versions.Table c.args.self.now c.args.client.now c.requires c.unstop.new.pass holds_stop false h.0 h.1) c.unstop.ensures.not_held
+-- it was refused, and nothing was called
+pub returns-in_err-unstop-clause-belongs : goal.returns-in_err-unstop-clause-belongs
+returns-in_err-unstop-clause-belongs g c =
+    let E = c.unstop.ensures in let v = c.say-shown.new.client in let same = c.in_err-unstop.ensures.not_held.1 in
+    pass_moved g.Versions.Table c.args.self.now v c.say-shown.ensures.belongs c.unstop.new.pass E.own.0 E.own.1 (ap (delays_of v.number) same)
+
+pub returns-in_err-unstop-clause-not_held : goal.returns-in_err-unstop-clause-not_held
+returns-in_err-unstop-clause-not_held g c =
+    let Y = c.say-shown in let same = c.in_err-unstop.ensures.not_held in
+    refused g.Versions.Table c.args.self.now c.args.client.now Y.new.client Y.ensures.keeps Y.ensures.belongs _ holds_stop false c.unstop.new.pass same.0 same.1

@@ -1,4 +1,4 @@
-use Rattle.std.proofs.Common.{◌≡◌, ◌⊎◌, Bool, true, false, None, Some, IfSome, inl, inr, refl, sym, ap, ◌∙◌, subst}
+use Rattle.std.proofs.Common.{◌≡◌, ◌⊎◌, max, arith, Bool, true, false, None, Some, IfSome, inl, inr, refl, sym, ap, ◌∙◌, subst}
 use Rattle.model_base.specs.Controller.{look}
 use Rattle.model_base.specs.Progress.{early_refusal}
 use Rattle.model_base.specs.Tokens.{holds_stop, tokens_of}
@@ -12,8 +12,8 @@ use Rattle.engine_rule.proofs.Own.{refused_looked}
 use Rattle.engine_groups.specs.Clients.{IsAnsweredInGroup, IsLeftOut, map_at_opening, account_in, opened_log, own_answers, own_commits, own_sights, settings_of}
 use Rattle.engine_parts.specs.declared.requests.Request.{Request}
 use Rattle.engine_parts.specs.declared.requests.Answer.{Answer}
-use Rattle.engine_groups.proofs.Answered.{above_seen, begins_on, begins_self, impatient_if, none_is, refuses_early, refuses_late}
-use Rattle.engine_groups.proofs.ClientMoves.{envelope_moved, no_delays, pass_moved, same_tokens, seat_moved}
+use Rattle.engine_groups.proofs.Answered.{above_all, above_note, above_seen, begins_on, begins_self, impatient_if, none_is, refuses_early, refuses_late}
+use Rattle.engine_groups.proofs.ClientMoves.{call_moved, envelope_moved, same_tokens, seat_moved, seen_before}
 use Rattle.engine_groups.proofs.Concluding.{concludes_either, ends_joined, note_is}
 use Rattle.engine_groups.proofs.engine.GroupEngine.write.Goals as goal
 
@@ -28,8 +28,7 @@ returns-in-Some-clause-err g c =
 pub returns-then-stopping-clause-belongs : goal.returns-then-stopping-clause-belongs
 returns-then-stopping-clause-belongs g c =
     let L = c.look-look.ensures in
-    pass_moved g.Versions.Table c.args.self.now c.args.client.now c.requires c.look-look.new.pass L.own.0 L.own.1
-    (no_delays g.Versions.Table c.args.self.now c.args.client.now c.requires c.look-look.new.pass look (Some (look_of c.look-look.result)) L.asked refl)
+    call_moved g.Versions.Table c.args.self.now c.args.client.now c.requires c.look-look.new.pass look (Some (look_of c.look-look.result)) L.own.0 L.own.1 L.asked refl
 
 pub returns-then-stopping-clause-err : goal.returns-then-stopping-clause-err
 returns-then-stopping-clause-err g c =
@@ -89,8 +88,11 @@ returns g c =
     let loaded = (g.Versions.Table.account L.new.seat).seen in
     let before = (g.Versions.Table.account v.seat).seen in let between = (g.Versions.Table.account w1.seat).seen in let now = (g.Versions.Table.account w2.seat).seen in
     let sees = begins_on before between now (begins_on before loaded between L.ensures.seen.seen c.submit.ensures.seen.0) E.seen.0 in
-    let above = above_seen v.start start L.result before loaded p.answer S.start L.ensures.seen.seen L.ensures.value c.await_above.ensures in
-    let all = concludes_either g.Versions.Table e v L.new.seat c.take.new.self w1 w2 _ p S.start E.same.0 E.same.1 E.same.2 E.same.3 sees c.submit.ensures.seen.1 E.seen.1 E.noted E.published passed free above A refl in
+    let most : c.max-most.result ≡ max L.result c.shown_by.result = c.max-most.ensures in
+    let above = above_seen v.start start L.result before loaded p.answer S.start L.ensures.seen.seen L.ensures.value (above_all L.result c.max-most.result p.answer (omega (arith, most)) c.await_above.ensures) in
+    let unseen = above_note p.note c.shown_by.result c.max-most.result p.answer c.shown_by.ensures (omega (arith, most)) c.await_above.ensures in
+    let had = seen_before g.Versions.Table e v c.requires L.new.seat L.result L.ensures.seen.seen L.ensures.value in
+    let all = concludes_either g.Versions.Table e v L.new.seat c.take.new.self w1 w2 _ p S.start E.same.0 E.same.1 E.same.2 E.same.3 sees c.submit.ensures.seen.1 E.seen.1 E.noted E.published passed free above unseen had A refl in
     record { belongs = E.fits; ok = all.accepted; back = all.back; logged = all.logged; err = all.refused; unchanged = all.unchanged }
 
 pub submit-requires-clause-write : goal.submit-requires-clause-write
