@@ -1,5 +1,5 @@
 -- A change of one family's map is the same change of the map of all families.
-use Rattle.std.proofs.Common.{◌≡◌, ℕ, ◌<◌, ◌≤◌, max, fold, Bool, true, false, cond, List, [], ◌∷◌, ◌++◌, map, flat_map, length, ◌+◌, refl, sym, ◌∙◌, ap, subst, arith, append_assoc, length-append, Option}
+use Rattle.std.proofs.Common.{◌≡◌, ℕ, ◌<◌, ◌≤◌, max, fold, Bool, true, false, cond, List, [], ◌∷◌, ◌++◌, length, ◌+◌, refl, sym, ◌∙◌, ap, subst, arith, length-append, Option}
 use Rattle.std.specs.Prelude.{Some, None}
 use Rattle.std.proofs.lemmas.Bool.{true≢false}
 use Rattle.std.proofs.lemmas.List.{length-map}
@@ -10,12 +10,12 @@ use Rattle.std.specs.Cmp.{nat_cmp_total, ranks, tied_itself}
 use Rattle.std.specs.List.{AllByRecursion}
 use Rattle.std.specs.List.Sorted.{IsStrictlySortedBy}
 use Rattle.std.specs.Map.{keys_of, lookup, remove_entry, set_value}
-use Rattle.std.specs.Option.{unwrap_or, option_and_then}
+use Rattle.std.specs.Option.{unwrap_or}
 use Rattle.std.specs.BTreeMap.{insert_entry, is_at}
 use Rattle.model_base.specs.declared.key.Key.{Key}
 use Rattle.model_base.specs.Map.{Rows, Pairs, byte_order, key_order, row_at, value_at}
 use Rattle.base_maps.specs.Families.{pairs_in, pairs_of, AreFamilies}
-use Rattle.base_maps.proofs.Merging.{all_inserted}
+use Rattle.base_maps.proofs.Within.{all_inserted}
 
 abbrev pub at : ℕ → List ℕ → Key
 at family key = record { family = family; bytes = key }

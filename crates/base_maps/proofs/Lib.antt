@@ -1,4 +1,7 @@
-pub mod MapPairs
-pub mod Merging
-pub mod Parts
+pub mod Within
+pub mod WordSteps
+pub mod PageSteps
+pub mod PartSteps
+pub mod MapSteps
+pub mod ShelfSteps
 pub mod Families

@@ -1,3 +1,5 @@
-pub mod Merging
+pub mod Words
+pub mod Pages
+pub mod Cuts
 pub mod Parts
 pub mod Families

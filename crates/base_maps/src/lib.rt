@@ -1,10 +1,17 @@
-//! `ByteMap`, a map of bytes by keys, and `FamilyMap`, which has one for each column family. Keys of at most 16 bytes
-//! are in a tree of their own, where they take no memory besides that of their nodes.
+//! `ByteMap`, a map of bytes by keys, and `FamilyMap`, which has one for each column family.
+//!
+//! The pairs of a map are on pages of some two thousand bytes, one pair after another, and the pages on shelves. So a
+//! pair takes hardly more memory than its bytes. A search goes by the first keys of the shelves, then by those of one
+//! shelf's pages, and last from pair to pair on one page.
 #![tactic(auto)]
 
 mod byte_map;
 mod family_map;
 mod family_trees;
+mod page;
+mod pairs;
+mod part;
+mod shelf;
 
 pub use byte_map::{ByteMap, BytePairs};
 pub use family_map::FamilyMap;

@@ -1,28 +1,34 @@
-use Rattle.std.proofs.Common.{◌≡◌, rules}
-use Rattle.base_maps.proofs.Parts.{short_put, short_put_parts, long_put, long_put_parts}
+-- The first pair has a shelf of its own, and each other one goes to a shelf that is there.
+use Rattle.std.proofs.Common.{◌≡◌, ◌+◌, Bool, length, sym, ◌∙◌, subst, arith}
+use Rattle.std.specs.Prelude.{if◌then◌else◌}
+use Rattle.std.specs.Vec.{vec_len}
+use Rattle.std.proofs.lemmas.Bool.{eqb-true}
+use Rattle.std.proofs.lemmas.List.{nil_from_length}
+use Rattle.base_maps.specs.Parts.{AreParts}
+use Rattle.base_maps.proofs.MapSteps.{one_shelf, put_map}
 use Rattle.base_maps.proofs.byte_map.ByteMap.insert.Goals as goal
 
-pub invariant_of-self-then-key-le-FRONT_LEN : goal.invariant_of-self-then-key-le-FRONT_LEN
-invariant_of-self-then-key-le-FRONT_LEN c =
-    short_put_parts _ _ c.insert.new.self.entries c.short.result c.args.key.now c.in_ok-value.value c.self.invariant c.short.ensures
-    c.if-key-le-FRONT_LEN.true c.in_ok-insert.ensures.entries c.in_ok-insert.ensures.ordered
+pub invariant_of-self-then-is_empty : goal.invariant_of-self-then-is_empty
+invariant_of-self-then-is_empty c =
+    let shelves = c.self.inside.shelves in
+    let len : vec_len shelves ≡ length shelves.items = omega (arith, shelves.ok.0) in
+    let none = nil_from_length shelves.items (sym len ∙ eqb-true (vec_len shelves) 0 (sym c.is_empty.ensures ∙ c.if-is_empty.true)) in
+    one_shelf shelves.items c.push.new.self.items c.in_ok-shelf.shelf c.args.key.now c.args.value.now c.in_ok-push.ensures.items none c.in_ok-shelf.ensures
 
-pub returns-then-key-le-FRONT_LEN-clause-ok : goal.returns-then-key-le-FRONT_LEN-clause-ok
-returns-then-key-le-FRONT_LEN-clause-ok c =
-    short_put _ _ c.args.self.now c.insert.new.self.entries c.short.result c.args.key.now c.in_ok-value.value c.args.value.now c.self.invariant c.self.view_is
-    c.short.ensures c.in_ok-value.ensures c.if-key-le-FRONT_LEN.true c.in_ok-insert.ensures.entries
+pub invariant_of-self-then-branch : goal.invariant_of-self-then-branch
+invariant_of-self-then-branch c =
+    let old = c.self.inside.shelves.items in
+    let new = c.insert_in.new.parts.items in
+    subst (λ (b : Bool). AreParts new (c.self.inside.count + (if b then 1 else 0))) c.if-branch.true
+    (put_map old new c.args.key.now c.self.inside.count c.self.invariant c.in_ok-insert_in.ensures.filled c.args.value.now c.in_ok-insert_in.ensures.ok
+    (if c.in_ok-insert_in.field-0 then 1 else 0) c.in_ok-insert_in.ensures.added)
 
-pub invariant_of-self-2 : goal.invariant_of-self-2
-invariant_of-self-2 c =
-    let key = c.in_ok-to_vec.field-0 in
-    let key_copied : key.items ≡ c.args.key.now = search rules in
-    long_put_parts (λ k. k.items) c.self.inside.short.entries c.self.inside.long.entries c.insert-2.new.self.entries key c.in_ok-value.value c.args.key.now
-    c.self.invariant key_copied c.if-key-le-FRONT_LEN.false c.in_ok-insert-2.ensures.entries c.in_ok-insert-2.ensures.ordered
-
-pub returns-clause-ok : goal.returns-clause-ok
-returns-clause-ok c =
-    let key = c.in_ok-to_vec.field-0 in
-    let key_copied : key.items ≡ c.args.key.now = search rules in
-    long_put (λ k. k.items) c.self.inside.short.entries c.self.inside.long.entries c.insert-2.new.self.entries c.args.self.now key c.in_ok-value.value
-    c.args.key.now c.args.value.now c.self.invariant c.self.view_is key_copied c.in_ok-value.ensures c.if-key-le-FRONT_LEN.false
-    c.in_ok-insert-2.ensures.entries
+pub invariant_of-self-else-branch : goal.invariant_of-self-else-branch
+invariant_of-self-else-branch c =
+    let old = c.self.inside.shelves.items in
+    let new = c.insert_in.new.parts.items in
+    let none : c.self.inside.count + 0 ≡ c.self.inside.count = omega arith in
+    subst (λ n. AreParts new n) none
+    (subst (λ (b : Bool). AreParts new (c.self.inside.count + (if b then 1 else 0))) c.if-branch.false
+    (put_map old new c.args.key.now c.self.inside.count c.self.invariant c.in_ok-insert_in.ensures.filled c.args.value.now c.in_ok-insert_in.ensures.ok
+    (if c.in_ok-insert_in.field-0 then 1 else 0) c.in_ok-insert_in.ensures.added))

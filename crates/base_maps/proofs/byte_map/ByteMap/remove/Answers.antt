@@ -1,23 +1,23 @@
-use Rattle.base_maps.proofs.Parts.{short_cut, short_cut_parts, long_cut, long_cut_parts}
+use Rattle.std.proofs.Common.{◌≡◌, ◌-◌, Bool, subst, arith}
+use Rattle.std.specs.Prelude.{if◌then◌else◌}
+use Rattle.base_maps.specs.Parts.{AreParts}
+use Rattle.base_maps.proofs.MapSteps.{cut_map}
 use Rattle.base_maps.proofs.byte_map.ByteMap.remove.Goals as goal
 
 pub invariant_of-self : goal.invariant_of-self
 invariant_of-self c =
-    let changed = c.remove-then-key-le-FRONT_LEN in
-    short_cut_parts _ _ changed.new.self.entries c.short.result c.self.invariant changed.ensures.entries changed.ensures.ordered
+    let old = c.self.inside.shelves.items in
+    let new = c.remove_in.new.parts.items in
+    subst (λ (b : Bool). AreParts new (c.self.inside.count - (if b then 1 else 0))) c.if-remove_in.true
+    (cut_map old new c.args.key.now c.self.inside.count c.self.invariant c.remove_in.ensures.filled c.remove_in.ensures.rows
+    (if c.remove_in.result then 1 else 0) c.remove_in.ensures.removed)
 
-pub returns-then-key-le-FRONT_LEN : goal.returns-then-key-le-FRONT_LEN
-returns-then-key-le-FRONT_LEN c =
-    let changed = c.remove-then-key-le-FRONT_LEN in
-    short_cut _ _ c.args.self.now changed.new.self.entries c.short.result c.args.key.now c.self.invariant c.self.view_is c.short.ensures
-    c.if-key-le-FRONT_LEN.true changed.ensures.entries
-
-pub invariant_of-self-2 : goal.invariant_of-self-2
-invariant_of-self-2 c =
-    long_cut_parts (λ k. k.items) c.self.inside.short.entries c.self.inside.long.entries c.remove-2.new.self.entries c.args.key.now c.self.invariant
-    c.remove-2.ensures.entries c.remove-2.ensures.ordered
-
-pub returns : goal.returns
-returns c =
-    long_cut (λ k. k.items) c.self.inside.short.entries c.self.inside.long.entries c.remove-2.new.self.entries c.args.self.now c.args.key.now c.self.invariant
-    c.self.view_is c.if-key-le-FRONT_LEN.false c.remove-2.ensures.entries
+pub invariant_of-self-else-remove_in : goal.invariant_of-self-else-remove_in
+invariant_of-self-else-remove_in c =
+    let old = c.self.inside.shelves.items in
+    let new = c.remove_in.new.parts.items in
+    let none : c.self.inside.count - 0 ≡ c.self.inside.count = omega arith in
+    subst (λ n. AreParts new n) none
+    (subst (λ (b : Bool). AreParts new (c.self.inside.count - (if b then 1 else 0))) c.if-remove_in.false
+    (cut_map old new c.args.key.now c.self.inside.count c.self.invariant c.remove_in.ensures.filled c.remove_in.ensures.rows
+    (if c.remove_in.result then 1 else 0) c.remove_in.ensures.removed))

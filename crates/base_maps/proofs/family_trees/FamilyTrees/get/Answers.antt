@@ -1,5 +1,4 @@
-use Rattle.std.proofs.Common.{ℕ, List, sym, ap, ◌∙◌, [], Option}
-use Rattle.std.specs.Prelude.{Some, None}
+use Rattle.std.proofs.Common.{sym, ap, ◌∙◌, [], Option}
 use Rattle.std.specs.Option.{option_copied, unwrap_or}
 use Rattle.model_base.specs.Map.{Rows}
 use Rattle.base_maps.proofs.Families.{found_first, found_other}

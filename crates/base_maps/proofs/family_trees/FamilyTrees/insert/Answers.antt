@@ -1,4 +1,4 @@
-use Rattle.std.proofs.Common.{ℕ, List, sym, ap, ◌∙◌, [], Option, OnOk, OnErr, Result, Ok, Err}
+use Rattle.std.proofs.Common.{sym, ap, ◌∙◌, OnOk, OnErr, Result, Ok, Err}
 use Rattle.std.specs.Option.{option_copied_mut}
 use Rattle.base_maps.proofs.Families.{with_first, put_first, with_other, set_other, put_there, kept_there, put_new}
 use Rattle.base_maps.proofs.family_trees.FamilyTrees.insert.Goals as goal

@@ -1,4 +1,4 @@
-use Rattle.base_maps.proofs.Families.{no_others, no_pairs}
+use Rattle.base_maps.proofs.Families.{no_others}
 use Rattle.base_maps.proofs.family_trees.FamilyTrees.new.Goals as goal
 
 pub invariant_of-result : goal.invariant_of-result

@@ -1,5 +1,5 @@
-use Rattle.std.proofs.Common.{ℕ, List, sym, ap, ◌∙◌, [], Option}
-use Rattle.std.specs.Prelude.{Some, None, ◌≡◌}
+use Rattle.std.proofs.Common.{sym, ap, ◌∙◌, [], Option}
+use Rattle.std.specs.Prelude.{Some, ◌≡◌}
 use Rattle.std.specs.Map.{remove_entry}
 use Rattle.std.specs.BTreeMap.{is_at}
 use Rattle.std.specs.Option.{unwrap_or, option_copied_mut}
