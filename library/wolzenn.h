@@ -25,11 +25,10 @@
    Memory comes from malloc and realloc, and is freed by free. Where these find none the answer is WZ_NO_MEMORY, and no
    memory is leaked.
 
-   What is promised below is proved, of the functions as they are called from Rattle. Five things are only tested: that
-   WZ_NO_MEMORY comes only where there was no memory; that no memory is leaked; that the calls of a scan, one after
-   another, make the whole scan; that a null pointer with the length 0 means no bytes; and the texts of codes and
-   reasons. How much memory is taken, and what is copied, is neither. That pointers and lengths are as said above is up
-   to the caller. docs/LIBRARY.md has more, and first programs.
+   What is promised below is proved, of the functions as they are called from Rattle. Four things are only tested: that
+   WZ_NO_MEMORY comes only where there was no memory; that no memory is leaked; that a null pointer with the length 0
+   means no bytes; and the texts of codes and reasons. How much memory is taken, and what is copied, is neither. That
+   pointers and lengths are as said above is up to the caller. docs/LIBRARY.md has more, and first programs.
 
    A program that was written when this header had one type of handle defines WZ_OLD_NAMES before it includes it: then
    all handles are a wz_handle, which wz_close closes, codes and reasons are a uint32_t, and reasons, modes and
@@ -66,7 +65,7 @@ extern "C" {
 
 /* The version of this header, and that of the library that the program runs with. They are the same number unless the
    header belongs to another version of the library. */
-#define WZ_VERSION 6u
+#define WZ_VERSION 7u
 uint32_t wz_version(void);
 
 /* What a function answers. */
@@ -237,7 +236,8 @@ typedef struct wz_record { uint64_t start; uint64_t end; size_t len; } wz_record
 typedef struct wz_unread { uint64_t from; uint64_t to; wz_end end; } wz_unread;
 
 /* A recovery: how many records are kept, each of which is one batch; how many pairs they leave; the last sequence and
-   the offset after the last record kept, each 0 where there is none; and where and why it ended. */
+   the offset after the last record kept, each 0 where there is none; and where and why it ended. wz_recover_more says
+   what it means where there are several logs. */
 typedef struct wz_recovered { size_t groups; size_t pairs; uint64_t last; uint64_t kept; wz_end end; } wz_recovered;
 
 /* The column family of a pair's key, and how many bytes its key and its value have. */
@@ -373,21 +373,34 @@ WZ_ANSWER wz_code wz_scan_record(wz_scan *scan, void *buffer, size_t buffer_len)
    sequences don't rise or are too high. Runs of sequences may leave gaps; a batch none of whose records counts is kept
    whatever its sequence. WZ_DONE: *summary says what was recovered, and the handle holds the pairs of key and value.
    They are those of this log alone, over an empty map: a deletion leaves no pair, also of a key that a database has in
-   its tables or its other logs. A caller who needs deletions reads record by record. A log may be resumed at
-   summary->kept.
+   its tables or in earlier logs. A caller who needs deletions reads record by record; wz_recover_more recovers later
+   logs. A log may be resumed at summary->kept.
    WZ_DAMAGE: the mode doesn't accept the end; summary->end says where and why, and the rest of *summary is 0.
    WZ_RANGE: there is no such mode. WZ_NO_MEMORY. At any answer except WZ_DONE the handle holds nothing. */
 WZ_ANSWER wz_code wz_recover(wz_recovery *recovery, uint32_t number, wz_mode mode, const void *log, size_t log_len,
                              wz_recovered *summary) WZ_NONNULL(1, 6);
 
+/* Recovers one more log into the recovery that a handle holds: the log that was written right after those. Its batches
+   change their pairs, and their sequences must rise above the last one of those. So several logs are recovered in the
+   order in which they were written, the first by wz_recover and each later one by this call. WZ_DONE: the handle holds
+   the pairs of all of them. summary->pairs and summary->last are about all, the rest of *summary is about this one.
+   WZ_END: an earlier log isn't whole, so that recovery ended in it, and no later one is recovered. A log is whole where
+   its recovery ends with WZ_WHY_CLEAN; or, if it has a number, with WZ_WHY_OLD_LOG right after the last record kept, as
+   a log does that was written over an older one. WZ_DAMAGE: the mode doesn't accept the end; summary->end says where
+   and why, and the rest of *summary is 0. WZ_RANGE: there is no such mode. WZ_NO_MEMORY. WZ_CLOSED: the handle holds
+   no recovery. At any answer except WZ_DONE the handle holds what it held. Each call copies the pairs of all logs so
+   far: a handle that was given this recovery by wz_recovery_share keeps it as it was. */
+WZ_ANSWER wz_code wz_recover_more(wz_recovery *recovery, uint32_t number, wz_mode mode, const void *log, size_t log_len,
+                                  wz_recovered *summary) WZ_NONNULL(1, 6);
+
 /* Moves a place of the log to the end of the last record that wz_recover keeps, where the log may be resumed; its last
    sequence is the last one that is kept. No pair is made, and no more memory is taken than for a block and a record.
-   *place starts as zeros: the log's start. For a log that follows another one, which ended with WZ_WHY_CLEAN, it starts
-   at 0 with the last sequence of that one. Where it is what an earlier call left of a log that has grown, only what
-   came after it is read: the log's bytes are all of them nevertheless, from its start on. WZ_DONE: *end says where
-   recovery ends, and why; any end is accepted (WZ_MODE_POINT). WZ_RANGE: the log ends before the place. WZ_NO_MEMORY.
-   At the last two *place stays as it was. Whether the log is kept up to the place isn't looked at: from any other
-   place it is read as if it were. */
+   *place starts as zeros: the log's start. For a log that follows another one, which is whole (wz_recover_more says
+   when), it starts at 0 with the last sequence of that one. Where it is what an earlier call left of a log that has
+   grown, only what came after it is read: the log's bytes are all of them nevertheless, from its start on. WZ_DONE:
+   *end says where recovery ends, and why; any end is accepted (WZ_MODE_POINT). WZ_RANGE: the log ends before the place.
+   WZ_NO_MEMORY. At the last two *place stays as it was. Whether the log is kept up to the place isn't looked at: from
+   any other place it is read as if it were. */
 WZ_ANSWER wz_code wz_recover_place(uint32_t number, const void *log, size_t log_len, wz_place *place, wz_end *end)
     WZ_NONNULL(4, 5);
 

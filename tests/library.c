@@ -2,6 +2,7 @@
 //
 //     library answer   reads lines and prints what the library says to each:
 //                      `log NUMBER MODE HEX`         all that reading and recovering a log tells, and its batches
+//                      `logs MODE NUMBER:HEX,..`     what logs recover one after another
 //                      `text NUMBER OFFSET HEX`      a record's bytes of a log
 //                      `batch`                       a new batch, to which the next lines are said:
 //                      `put HEX HEX`, `del HEX`, `sdel HEX`, `note HEX`, `append HEX`, `seq N`, `clear`
@@ -84,7 +85,7 @@ static int digit_of(char digit) {
 }
 
 static bytes bytes_of_hex(const char *hex) {
-    size_t len = hex[0] == '-' ? 0 : strlen(hex) / 2;
+    size_t len = hex[0] == '-' ? 0 : strcspn(hex, ",") / 2;
     bytes made = room_for(len);
     for (size_t i = 0; i < len; i++) made.at[i] = (uint8_t)(digit_of(hex[2 * i]) << 4 | digit_of(hex[2 * i + 1]));
     return made;
@@ -255,6 +256,74 @@ static void answer_scan(uint32_t number, bytes log) {
     wz_close(&scan);
 }
 
+// All pairs of a recovery, each with the answer for the next key that could be there.
+static void print_pairs(wz_handle *recovery, size_t count) {
+    for (size_t i = 0; i < count; i++) {
+        wz_pair_lens lens;
+        size_t index;
+        WANTED(wz_pair_len(recovery, i, &lens) == WZ_DONE);
+        bytes key = room_for(lens.key_len), value = room_for(lens.value_len);
+        if (key.len > 0) WANTED(wz_pair(recovery, i, key.at, key.len - 1, value.at, value.len) == WZ_SMALL);
+        if (value.len > 0) WANTED(wz_pair(recovery, i, key.at, key.len, value.at, value.len - 1) == WZ_SMALL);
+        WANTED((key.len == 0 || key.at[0] == MARK) && (value.len == 0 || value.at[0] == MARK));
+        WANTED(wz_pair(recovery, i, key.at, key.len, value.at, value.len) == WZ_DONE);
+        WANTED(wz_pair_find(recovery, lens.family, key.at, key.len, &index) == WZ_DONE && index == i);
+        printf("pair %" PRIu32 " ", lens.family);
+        print_hex(key.at, key.len);
+        printf(" ");
+        print_hex(value.at, value.len);
+        // The next key that could be there, this key and a byte of zero, has no pair or the next one.
+        bytes next = room_for(key.len + 1);
+        memcpy(next.at, key.at, key.len);
+        next.at[key.len] = 0;
+        uint32_t code = wz_pair_find(recovery, lens.family, next.at, next.len, &index);
+        WANTED((code == WZ_DONE || code == WZ_END) && index == i + 1);
+        printf(" %" PRIu32 "\n", code);
+        done_with(next);
+        done_with(key);
+        done_with(value);
+    }
+}
+
+static void print_recovered(uint32_t code, wz_recovered found) {
+    printf("recovered %" PRIu32 " %zu %zu ", code, found.groups, found.pairs);
+    printf("%" PRIu64 " %" PRIu64 " ", found.last, found.kept);
+    print_end(found.end);
+}
+
+// Recovers logs one after another. At each answer but `WZ_DONE` the recovery stays as it was, and so do others that
+// share it at any answer.
+static void answer_logs(uint32_t mode, const char *words) {
+    wz_handle recovery = WZ_HANDLE_INIT, shared = WZ_HANDLE_INIT;
+    wz_recovered found, held;
+    size_t before = 0;
+    for (int count = 0; words != NULL; count++) {
+        uint32_t number = (uint32_t)strtoul(words, NULL, 10);
+        bytes log = bytes_of_hex(strchr(words, ':') + 1);
+        memset(&found, 0, sizeof found);
+        if (count == 0) memset(&held, 0, sizeof held);
+        else WANTED(wz_recovery_share(&recovery, &shared) == (held.end.why == 0 ? WZ_CLOSED : WZ_DONE));
+        uint32_t code = count == 0 ? wz_recover(&recovery, number, mode, log.at, log.len, &found)
+                                   : wz_recover_more(&recovery, number, mode, log.at, log.len, &found);
+        print_recovered(code, found);
+        if (code == WZ_DONE) held = found;
+        wz_pair_lens lens;
+        WANTED(held.end.why == 0 || wz_pair_len(&recovery, held.pairs, &lens) == WZ_END);
+        WANTED(held.pairs == 0 || wz_pair_len(&recovery, held.pairs - 1, &lens) == WZ_DONE);
+        if (count > 0 && before > 0) {
+            WANTED(wz_pair_len(&shared, before, &lens) == WZ_END);
+            WANTED(wz_pair_len(&shared, before - 1, &lens) == WZ_DONE);
+        }
+        before = held.pairs;
+        done_with(log);
+        words = strchr(words, ',');
+        if (words != NULL) words++;
+    }
+    print_pairs(&recovery, held.pairs);
+    wz_close(&recovery);
+    wz_close(&shared);
+}
+
 static void answer_log(uint32_t number, uint32_t mode, bytes log) {
     wz_handle handle = WZ_HANDLE_INIT;
     wz_record record;
@@ -301,34 +370,8 @@ static void answer_log(uint32_t number, uint32_t mode, bytes log) {
     wz_recovered found;
     memset(&found, 0, sizeof found);
     code = wz_recover(&handle, number, mode, log.at, log.len, &found);
-    printf("recovered %" PRIu32 " %zu %zu ", code, found.groups, found.pairs);
-    printf("%" PRIu64 " %" PRIu64 " ", found.last, found.kept);
-    print_end(found.end);
-    for (size_t i = 0; i < found.pairs; i++) {
-        wz_pair_lens lens;
-        size_t index;
-        WANTED(wz_pair_len(&handle, i, &lens) == WZ_DONE);
-        bytes key = room_for(lens.key_len), value = room_for(lens.value_len);
-        if (key.len > 0) WANTED(wz_pair(&handle, i, key.at, key.len - 1, value.at, value.len) == WZ_SMALL);
-        if (value.len > 0) WANTED(wz_pair(&handle, i, key.at, key.len, value.at, value.len - 1) == WZ_SMALL);
-        WANTED((key.len == 0 || key.at[0] == MARK) && (value.len == 0 || value.at[0] == MARK));
-        WANTED(wz_pair(&handle, i, key.at, key.len, value.at, value.len) == WZ_DONE);
-        WANTED(wz_pair_find(&handle, lens.family, key.at, key.len, &index) == WZ_DONE && index == i);
-        printf("pair %" PRIu32 " ", lens.family);
-        print_hex(key.at, key.len);
-        printf(" ");
-        print_hex(value.at, value.len);
-        // The next key that could be there, this key and a byte of zero, has no pair or the next one.
-        bytes next = room_for(key.len + 1);
-        memcpy(next.at, key.at, key.len);
-        next.at[key.len] = 0;
-        code = wz_pair_find(&handle, lens.family, next.at, next.len, &index);
-        WANTED((code == WZ_DONE || code == WZ_END) && index == i + 1);
-        printf(" %" PRIu32 "\n", code);
-        done_with(next);
-        done_with(key);
-        done_with(value);
-    }
+    print_recovered(code, found);
+    print_pairs(&handle, found.pairs);
     wz_close(&handle);
     answer_place(number, log);
     answer_scan(number, log);
@@ -401,6 +444,8 @@ static int answer(void) {
             bytes log = bytes_of_hex(words[3]);
             answer_log(number, (uint32_t)strtoul(words[2], NULL, 10), log);
             done_with(log);
+        } else if (!strcmp(words[0], "logs")) {
+            answer_logs(number, words[2]);
         } else if (!strcmp(words[0], "text")) {
             bytes record = bytes_of_hex(words[3]);
             answer_text(number, strtoull(words[2], NULL, 10), record);
@@ -441,6 +486,11 @@ static void check_other_kinds(wz_handle *handle, int is_reader, int is_recovery,
         WANTED(wz_scan_record(handle, &byte, 1) == WZ_CLOSED && is_same_unread(unread, same));
     }
     if (!is_recovery) {
+        wz_recovered found, same;
+        memset(&found, 7, sizeof found);
+        same = found;
+        WANTED(wz_recover_more(handle, 0, WZ_POINT, &byte, 1, &found) == WZ_CLOSED);
+        WANTED(!memcmp(&found, &same, sizeof same));
         WANTED(wz_pair_len(handle, 0, &lens) == WZ_CLOSED);
         WANTED(wz_pair(handle, 0, &byte, 1, &other, 1) == WZ_CLOSED);
         WANTED(wz_pair_find(handle, 1, &byte, 1, &number) == WZ_CLOSED);
@@ -534,6 +584,7 @@ static void check_null_logs(wz_handle *handle) {
     WANTED(wz_reader_next_since(handle, 1, NULL, 0, &record, &end) == WZ_END && end.why == WZ_CLEAN);
     WANTED(wz_reader_record(handle, NULL, 0) == WZ_END);
     WANTED(wz_recover(handle, 7, WZ_ABSOLUTE, NULL, 0, &found) == WZ_DONE && found.groups == 0);
+    WANTED(wz_recover_more(handle, 8, WZ_ABSOLUTE, NULL, 0, &found) == WZ_DONE && found.groups == 0);
     WANTED(wz_log_record(0, 0, NULL, 0, NULL, 0, &len) == WZ_SMALL && len == 0);
     WANTED(wz_log_record(0, 0, NULL, 0, log, sizeof log, &len) == WZ_DONE && len == 7);
     WANTED(wz_reader_open(handle, 0) == WZ_DONE);
@@ -621,6 +672,29 @@ static void check_sharing(wz_handle *recovery) {
     WANTED(wz_pair_find(recovery, 0, "a", 1, &index) == WZ_DONE && index == 0);
 }
 
+// One more log changes nothing where it isn't recovered, and none is recovered after one that isn't whole.
+static void check_more(wz_handle *recovery) {
+    static const uint8_t batch[] = {2, 0, 0, 0, 0, 0, 0, 0, 1, 0, 0, 0, 0, 1, 'a'};
+    uint8_t log[64];
+    size_t len;
+    wz_recovered found, old;
+    WANTED(wz_log_record(0, 0, batch, sizeof batch, log, sizeof log, &len) == WZ_DONE && len == 22);
+    memset(&found, 7, sizeof found);
+    old = found;
+    WANTED(wz_recover_more(recovery, 0, 3, log, len, &found) == WZ_RANGE && !memcmp(&found, &old, sizeof old));
+    WANTED(wz_recover_more(recovery, 0, WZ_ABSOLUTE, log, len - 1, &found) == WZ_DAMAGE);
+    WANTED(found.groups == 0 && found.pairs == 0 && found.last == 0 && found.kept == 0);
+    WANTED(found.end.at == 0 && found.end.why == WZ_BAD_LENGTH);
+    check_no_pair(recovery, 1);
+    WANTED(wz_recover_more(recovery, 0, WZ_ABSOLUTE, log, len, &found) == WZ_DONE);
+    WANTED(found.groups == 1 && found.pairs == 0 && found.last == 2 && found.kept == len);
+    check_no_pair(recovery, 0);
+    WANTED(wz_recover_more(recovery, 0, WZ_POINT, log, len, &found) == WZ_DONE);
+    WANTED(found.groups == 0 && found.last == 2 && found.kept == 0 && found.end.why == WZ_ORDER);
+    old = found;
+    WANTED(wz_recover_more(recovery, 0, WZ_POINT, NULL, 0, &found) == WZ_END && !memcmp(&found, &old, sizeof old));
+}
+
 static int calls(void) {
     static const uint8_t batch[] = {1, 0, 0, 0, 0, 0, 0, 0, 1, 0, 0, 0, 1, 1, 'a', 1, '1'};
     uint8_t log[64];
@@ -653,6 +727,7 @@ static int calls(void) {
     check_other_kinds(&handle, 0, 1, 0, 0);
     check_no_pair(&handle, 1);
     check_sharing(&handle);
+    check_more(&handle);
     // A call that fails, since a log isn't accepted or doesn't exist, leaves a handle that holds nothing.
     WANTED(wz_recover(&handle, 0, WZ_ABSOLUTE, log, len - 1, &found) == WZ_DAMAGE);
     WANTED(found.groups == 0 && found.pairs == 0 && found.last == 0 && found.kept == 0);
@@ -768,6 +843,25 @@ static uint32_t scan_all(wz_handle *scan, uint32_t number, bytes log) {
     return code;
 }
 
+// Recovers one more log of a batch of two keys. Where memory is refused the recovery stays as it was.
+static uint32_t recover_later(wz_handle *recovery, size_t pairs) {
+    static const uint8_t batch[] = {0, 0, 0, 0, 0, 1, 0, 0, 2, 0, 0, 0, 1, 3, 'n', 'e', 'w', 1, '1', 1, 0, 0};
+    uint8_t log[64];
+    size_t len;
+    wz_recovered found, old;
+    memset(&found, 7, sizeof found);
+    old = found;
+    WANTED(wz_log_record(0, 0, batch, sizeof batch, log, sizeof log, &len) == WZ_DONE);
+    uint32_t code = wz_recover_more(recovery, 0, WZ_POINT, log, len, &found);
+    if (code == WZ_DONE) WANTED(found.groups == 1 && found.pairs == pairs + 2);
+    else WANTED(!memcmp(&found, &old, sizeof old));
+    long left = granted;
+    granted = -1;
+    check_no_pair(recovery, code == WZ_DONE ? pairs + 2 : pairs);
+    granted = left;
+    return code;
+}
+
 static uint32_t recover_all(wz_handle *recovery, uint32_t number, bytes log) {
     wz_recovered found, old;
     memset(&found, 7, sizeof found);
@@ -775,6 +869,7 @@ static uint32_t recover_all(wz_handle *recovery, uint32_t number, bytes log) {
     wz_handle first = WZ_HANDLE_INIT;
     uint32_t code = wz_recover(&first, number, WZ_POINT, log.at, log.len, &found);
     if (code != WZ_DONE) WANTED(!memcmp(&found, &old, sizeof old));
+    if (code == WZ_DONE && found.end.why == WZ_CLEAN) code = recover_later(&first, found.pairs);
     if (code == WZ_DONE) code = wz_recovery_share(&first, recovery);
     else wz_close(recovery);
     wz_close(&first);

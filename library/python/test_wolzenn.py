@@ -155,6 +155,35 @@ class Recovering(unittest.TestCase):
             self.assertEqual(found.get(b"k", family=300), b"2")
 
 
+    def test_logs_in_turn(self):
+        for number in (0, 7):
+            three = log_of(built(5, (b"b",), (b"d", b"4")), number=number)
+            with wolzenn.recover(log_of(ONE, number=number), number) as found:
+                shared = found.share()
+                self.assertTrue(found.recover_more(log_of(TWO, number=number), number, Mode.ABSOLUTE))
+                self.assertEqual((found.groups, found.last, found.kept, len(found)), (1, 4, found.end.at, 2))
+                # A log that the mode refuses changes nothing.
+                with self.assertRaises(wolzenn.Damage):
+                    found.recover_more(three[:-1], number, Mode.ABSOLUTE)
+                self.assertEqual((found.groups, found.last, len(found)), (1, 4, 2))
+                self.assertTrue(found.recover_more(three, number))
+                self.assertEqual(list(found), [Pair(0, b"c", b"3"), Pair(0, b"d", b"4")])
+                self.assertEqual(list(shared), [Pair(0, b"a", b"1"), Pair(0, b"b", b"")])
+                # Its sequences don't rise, so that recovery ends in it.
+                self.assertTrue(found.recover_more(three, number))
+                self.assertEqual((found.groups, found.kept, found.last), (0, 0, 6))
+                self.assertEqual(found.end, End(0, Why.ORDER, 5, 6))
+                self.assertFalse(found.recover_more(log_of(built(9, (b"e", b"")), number=number), number))
+                self.assertEqual((len(found), found.last), (2, 6))
+
+    def test_a_log_over_an_older_one(self):
+        over = log_of(ONE, number=7) + log_of(TWO, number=6)
+        with wolzenn.recover(over, 7) as found:
+            self.assertEqual(found.end.why, Why.OLD_LOG)
+            self.assertTrue(found.recover_more(log_of(TWO, number=8), 8, Mode.ABSOLUTE))
+            self.assertEqual((len(found), found.last, found.end.why), (2, 4, Why.CLEAN))
+
+
 class Batches(unittest.TestCase):
     def test_operations(self):
         with Batch() as batch:

@@ -49,7 +49,7 @@ BATCH_HEADER_LEN = 12
 MAX_BATCH = 16_777_216
 """The most bytes of a `Batch`."""
 
-_VERSION = 6
+_VERSION = 7
 
 # The number of the binary interface, which the shared library's name has.
 _ABI = 3
@@ -311,6 +311,7 @@ def _load():
         "scan_next": [handle, *data, ctypes.POINTER(_Record), ctypes.POINTER(_Unread), end],
         "scan_record": [handle, *data],
         "recover": [handle, u32, u32, *data, ctypes.POINTER(_Recovered)],
+        "recover_more": [handle, u32, u32, *data, ctypes.POINTER(_Recovered)],
         "pair_len": [handle, size, ctypes.POINTER(_PairLens)],
         "pair": [handle, size, *data, *data],
         "pair_find": [handle, u32, *data, place],
@@ -547,7 +548,8 @@ class Scan(_Held):
 
 class Recovery(_Held):
     """What a log recovers: `recover` makes it. It has the pairs that the batches leave, by column family and in a
-    family in the byte order of their keys: `len` counts them, and they may be iterated and taken by their index.
+    family in the byte order of their keys: `len` counts them, and they may be iterated and taken by their index. Later
+    logs are recovered by `recover_more`.
 
     `groups` is how many records are recovered, each of which is one batch; `last` the last sequence, and `kept` the
     offset after the last of these records, each 0 where there is none: the log may be resumed there, once it is
@@ -556,14 +558,33 @@ class Recovery(_Held):
 
     def __init__(self, log, number, mode):
         super().__init__()
-        _within(number, 32, "the number of a log")
+        self._recover(_library.wz_recover, log, number, mode)
+
+    def _recover(self, function, log, number, mode):
+        """Whether the log was recovered, by this function. Otherwise recovery has ended in an earlier one."""
         found = _Recovered()
+        _within(number, 32, "the number of a log")
         with _Bytes(log) as data:
-            code = _library.wz_recover(self._own(), number, Mode(mode), data.at, data.len, found)
-        if _answer(code, _DAMAGE) == _DAMAGE:
+            code = function(self._own(), number, Mode(mode), data.at, data.len, found)
+        if _answer(code, _DAMAGE, _END) == _DAMAGE:
             raise Damage(found.end.told())
+        if code == _END:
+            return False
         self.groups, self.last, self.kept = found.groups, found.last, found.kept
         self.end, self._len = found.end.told(), found.pairs
+        return True
+
+    def recover_more(self, log, number=0, mode=Mode.POINT):
+        """Recovers one more log: the one that was written right after those of this recovery. Its batches change the
+        pairs, and their sequences must rise above `last`. So several logs are recovered in the order in which they were
+        written. From then on `groups`, `kept` and `end` are about this log, and the rest about all of them.
+
+        Whether it was: not if an earlier log isn't whole, since recovery ended in that one. A log is whole whose end is
+        `Why.CLEAN`, or, if it has a number, `Why.OLD_LOG` right after the last record kept. Damage where the mode
+        doesn't accept the end; at an error the recovery stays as it was. Each call copies the pairs of all logs so far:
+        a recovery that was shared before keeps its own.
+        """
+        return self._recover(_library.wz_recover_more, log, number, mode)
 
     def __len__(self):
         return self._len
@@ -580,8 +601,8 @@ class Recovery(_Held):
         return Pair(lens.family, key.raw, value.raw)
 
     def share(self):
-        """The same recovery once more, for the thread that uses it first. Nothing is copied: what was recovered is freed
-        with the last of them."""
+        """The same recovery once more, for the thread that uses it first. Nothing is copied: what was recovered is
+        freed with the last of them."""
         other = Recovery.__new__(Recovery)
         _Held.__init__(other)
         _answer(_library.wz_recovery_share(self._own(), other._handle))
@@ -623,7 +644,9 @@ class Place:
         """Moves it to the end of the last record that `recover` keeps, where the log may be resumed, and answers where
         recovery ends. No pairs are made. Of a log that has grown since the last call only what came after that is read;
         `log` is nevertheless all that it has by now. PastEnd if the log ends before the place, which stays then.
-        Whether the log is kept up to the place isn't looked at: from any other place it is read as if it were."""
+        Whether the log is kept up to the place isn't looked at: from any other place it is read as if it were. For a
+        log that follows another one, which is whole (`Recovery.recover_more` says when), it starts at the offset 0 with
+        the last sequence of that one."""
         place, end = _Place(self.at, self.last), _End()
         with _Bytes(log) as data:
             number = _within(number, 32, "the number of a log")

@@ -90,7 +90,9 @@ fn say_end<R: ReadAt, E: Sink>(
             put_number(errors, at);
             put(errors, ": ");
             put(errors, meaning_of(why));
-            put(errors, "\nwzlog: docs/RECOVERY.md, heading `");
+            put(errors, "\n");
+            say_older(errors, number, why);
+            put(errors, "wzlog: docs/RECOVERY.md, heading `");
             put(errors, heading_of(why));
             put(errors, "`, says what to do\n");
             say_around(file, errors, at);
@@ -108,6 +110,21 @@ fn say_old_log<E: Sink>(errors: &mut E, number: Option<u32>, at: u64, other: u32
         put(
             errors,
             ": the number is wrong, or another file has this name\n",
+        );
+    }
+}
+
+/// Says of a log with a number that it may just end there. Where it was written over an older log, its last record may
+/// end inside of an older fragment, whose bytes may look like any of these.
+fn say_older<E: Sink>(errors: &mut E, number: Option<u32>, why: EndReason) {
+    let may_be_older = matches!(
+        why,
+        EndReason::Broken(Damage::BadType(_) | Damage::BadLength | Damage::BadChecksum)
+    );
+    if number.is_some() && may_be_older {
+        say(
+            errors,
+            "or the log ends there, if it was written over an older one, whose bytes follow",
         );
     }
 }

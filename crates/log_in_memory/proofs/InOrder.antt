@@ -1,5 +1,5 @@
 -- The place of a key among pairs in the order of their keys.
-use Rattle.std.proofs.Common.{◌≡◌, ℕ, ◌<◌, ◌≤◌, Bool, true, false, cond, List, [], ◌∷◌, refl, sym, ap, ◌∙◌, length, filter, Option, Some, None, slice_get, slice_index_or, arith, zero, suc}
+use Rattle.std.proofs.Common.{◌≡◌, ℕ, ◌+◌, ◌<◌, ◌≤◌, Bool, true, false, cond, List, [], ◌∷◌, refl, sym, ap, ◌∙◌, length, take, filter, Option, Some, None, slice_get, slice_index_or, arith, zero, suc}
 use Rattle.std.proofs.lemmas.Bool.{true≢false}
 use Rattle.std.specs.declared.cmp.Ordering.{Ordering}
 use Rattle.std.specs.declared.cmp.Ordering.TheVariants.{Less, Equal, Greater}
@@ -9,9 +9,9 @@ use Rattle.std.specs.Cmp.Lexicographic.{nat_list_cmp_total}
 use Rattle.std.specs.List.{AllByRecursion, AllWithin}
 use Rattle.std.specs.List.Sorted.{IsStrictlySortedBy, IsPartitionedBy}
 use Rattle.std.specs.Map.{keys_of, lookup}
-use Rattle.std.specs.BTreeMap.{is_at}
+use Rattle.std.specs.BTreeMap.{insert_entry, is_at}
 use Rattle.model_base.specs.declared.key.Key.{Key}
-use Rattle.model_base.specs.Map.{key_order}
+use Rattle.model_base.specs.Map.{Pairs, key_at as key_of, key_order}
 
 -- the order of keys is total
 pub key_total : IsTotalOrder key_order
@@ -99,3 +99,32 @@ module _ {K : Type 0} (R : K → K → Ordering) (o : IsTotalOrder R) (key : K) 
     unfolding IsStrictlySortedBy
     there [] s = refl
     there (p ∷ l) s = there-by p l (R p.0 key) refl s.0 (there l s.1)
+
+-- ---- pairs that are put into a map in their order
+
+module _ {K : Type 0} {V : Type 0} (R : K → K → Ordering) (o : IsTotalOrder R) where
+  key_there : (P : K → Type 0) (l : List (K × V)) → AllByRecursion P (keys_of l) → (j : ℕ) (d : K × V) → j < length l → P (slice_index_or l j d).0
+  key_there P [] a j d lt = absurd (omega arith)
+  key_there P (p ∷ l) a zero d lt = a.0
+  key_there P (p ∷ l) a (suc j) d lt = key_there P l a.1 j d (omega arith)
+
+  -- each next one is put after those before it
+  pub put_next : (l : List (K × V)) (i : ℕ) (d : K × V) → IsStrictlySortedBy R (keys_of l) → i < length l
+      → insert_entry R (take i l) (slice_index_or l i d).0 (slice_index_or l i d).1 ≡ take (suc i) l
+  unfolding IsStrictlySortedBy
+  put_next [] i d s lt = absurd (omega arith)
+  put_next (p ∷ l) zero d s lt = refl
+  put_next (p ∷ l) (suc i) d s lt =
+      let q = slice_index_or l i d in
+      let later : R q.0 p.0 ≡ Greater = o.antisymm q.0 p.0 ∙ ap ordering_reverse (key_there (λ k. R p.0 k ≡ Less) l s.0 i d (omega arith)) in
+      rw later (ap (λ (t : List (K × V)). p ∷ t) (put_next l i d s.1 (omega arith)))
+
+-- So it is of a key and a value that were read from the pair.
+pub pair_put : (all made new : Pairs) (i family : ℕ) (key value key_read value_read : List ℕ) (p : Key × List ℕ) → IsStrictlySortedBy key_order (keys_of all) → i < length all → made ≡ take i all
+    → p ≡ slice_index_or all i p → (key_of family key, value) ≡ p → key_read ≡ key → value_read ≡ value → new ≡ insert_entry key_order made (key_of family key_read) value_read → new ≡ take (i + 1) all
+pair_put all made new i family key value key_read value_read p sorted lt so_far there shown key_is value_is done =
+    let is : (key_of family key_read, value_read) ≡ slice_index_or all i p =
+    ap (λ (k : List ℕ). (key_of family k, value_read)) key_is ∙ (ap (λ (v : List ℕ). (key_of family key, v)) value_is ∙ (shown ∙ there)) in
+    let one : suc i ≡ i + 1 = omega arith in
+    done ∙ (ap (λ (m : Pairs). insert_entry key_order m (key_of family key_read) value_read) so_far
+    ∙ (ap (λ (q : Key × List ℕ). insert_entry key_order (take i all) q.0 q.1) is ∙ (put_next key_order key_total all i p sorted lt ∙ ap (λ (n : ℕ). take n all) one)))

@@ -1,3 +1,4 @@
 pub mod Finding
 pub mod InOrder
+pub mod Runs
 pub mod Skipping

@@ -2,13 +2,16 @@
 //!
 //! - `reading`: a reader of the log's records, up to where reading ends
 //! - `scanning`: a scan of its records, also of those after damage
-//! - `recovery_pairs`: the pairs of key and value that were recovered from it
+//! - `scan_runs`: a law of its calls, one after another
+//! - `recovery_pairs`: the pairs of key and value that were recovered from it and from the logs before it
 #![tactic(auto)]
 
 mod reading;
 mod recovery_pairs;
+mod scan_runs;
 mod scanning;
 
 pub use reading::{Reading, log_number};
 pub use recovery_pairs::{FamilyPair, RecoveryPairs, order};
+pub use scan_runs::calls_of_a_scan;
 pub use scanning::{Scan, Scanned};

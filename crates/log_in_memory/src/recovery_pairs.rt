@@ -1,4 +1,4 @@
-//! The pairs that were recovered from a log.
+//! The pairs that were recovered from logs.
 
 ghost use Rattle.std.specs.Prelude.{◌≡◌, slice_get, IfOk};
 ghost use Rattle.std.specs.List.Sorted.{IsStrictlySortedBy};
@@ -34,22 +34,49 @@ impl Model for FamilyPair {
     ghost view = { λ p. (key_at p.family p.key, p.value) };
 }
 
-/// The pairs of keys and values that were recovered from a log, by family and in each family in the byte order of the
-/// keys.
+/// The pairs of keys and values that were recovered from logs which were written one after another, by family and in
+/// each family in the byte order of the keys; and what a later log goes on from.
 #[derive(Drop)]
 pub struct RecoveryPairs {
     pub pairs: Vec<FamilyPair>,
+    /// The last sequence of these logs, 0 where there is none.
+    pub last: u64,
+    /// Whether the last one of them ended clean, so that recovery goes on in a later log.
+    pub goes_on: bool,
     ghost ordered: { IsStrictlySortedBy key_order (keys_of pairs.items) } by { Prim.hlevel props },
 }
 
 impl RecoveryPairs {
-    /// The pairs of a map. Each is copied.
-    pub fn of(alloc: Global, map: &FamilyMap) -> Result<RecoveryPairs, NoMemory>
-        ensures { IfOk result (λ r. r.pairs.items ≡ map.now) }
+    /// The pairs of a map, each of which is copied, the last sequence, and whether recovery goes on.
+    pub fn of(
+        alloc: Global,
+        map: &FamilyMap,
+        last: u64,
+        goes_on: bool,
+    ) -> Result<RecoveryPairs, NoMemory>
+        ensures pairs { IfOk result (λ r. r.pairs.items ≡ map.now) }
+        ensures last { IfOk result (λ r. r.last ≡ last) }
+        ensures goes_on { IfOk result (λ r. r.goes_on ≡ goes_on) }
     {
         let pairs = pairs_of(alloc, map)?;
         map.in_order();
-        Ok(RecoveryPairs { pairs })
+        Ok(RecoveryPairs {
+            pairs,
+            last,
+            goes_on,
+        })
+    }
+
+    /// A map of the pairs. Each is copied.
+    pub fn to_map(&self, alloc: Global) -> Result<FamilyMap, NoMemory>
+        ensures { IfOk result (λ map. map ≡ self.now.pairs.items) }
+    {
+        let mut map = FamilyMap::new(alloc);
+        // The map has the pairs so far.
+        for pair in &self.pairs {
+            map.insert(pair.family, pair.key.as_slice(), pair.value.as_slice())?;
+        }
+        Ok(map)
     }
 
     /// The family, the key and the value of the pair with this index, if there is one.

@@ -16,3 +16,4 @@ pub mod Unread
 pub mod Faults
 pub mod NotDue
 pub mod FollowSteps
+pub mod OneMore

@@ -3,4 +3,5 @@ pub mod Keeping
 pub mod Modes
 pub mod Recovering
 pub mod RecoveringLogs
+pub mod RecoveringMore
 pub mod Updating

@@ -1,4 +1,5 @@
 pub mod LogPlaces
+pub mod LogsInTurn
 pub mod OneOperation
 pub mod OperationPlaces
 pub mod Passing

@@ -4,6 +4,7 @@ pub mod Batches
 pub mod Buffers
 pub mod Holding
 pub mod LogPlaces
+pub mod MoreLogs
 pub mod Objects
 pub mod Operations
 pub mod PairCalls
@@ -11,3 +12,4 @@ pub mod ReaderCalls
 pub mod Reasons
 pub mod Recoveries
 pub mod ScanCalls
+pub mod SeveralLogs

@@ -6,6 +6,7 @@ use Rattle.model_base.specs.Map.{Pairs}
 use Rattle.wolzenn_c.specs.declared.object.Object.{Object}
 use Rattle.wolzenn_c.specs.declared.object.Object.TheVariants as object
 use Rattle.log_in_memory.specs.declared.reading.Reading.{Reading}
+use Rattle.log_in_memory.specs.declared.recovery_pairs.RecoveryPairs.{RecoveryPairs}
 use Rattle.log_in_memory.specs.declared.scanning.Scan.{Scan}
 
 -- the reader that it holds, if it holds one
@@ -23,6 +24,14 @@ as_scan (Some (object.Reader r)) = None
 as_scan (Some (object.Scan s)) = Some s
 as_scan (Some (object.Recovery r)) = None
 as_scan (Some (object.Batch b)) = None
+
+-- the recovery that it holds, if it holds one
+abbrev pub as_recovered : Option Object → Option RecoveryPairs
+as_recovered None = None
+as_recovered (Some (object.Reader r)) = None
+as_recovered (Some (object.Scan s)) = None
+as_recovered (Some (object.Recovery r)) = Some (arc_value r)
+as_recovered (Some (object.Batch b)) = None
 
 -- the pairs of the recovery that it holds, if it holds one
 abbrev pub as_recovery : Option Object → Option Pairs

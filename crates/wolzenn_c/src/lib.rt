@@ -1,7 +1,7 @@
 //! The proved crates for programs in C, C++ and Rust: the functions of `library/wolzenn.h`.
 //!
-//! - `checksum`, `reader`, `scan`, `recovery`, `sharing`, `log_place`, `pairs`, `batch`, `batch_bytes`, `operations`,
-//!   `log_record`, `handle`: the functions, by kind
+//! - `checksum`, `reader`, `scan`, `recovery`, `more_logs`, `sharing`, `log_place`, `pairs`, `batch`, `batch_bytes`,
+//!   `operations`, `log_record`, `handle`: the functions, by kind
 //! - `codes`: the numbers that they answer
 //! - `handle`, `held`, `object`: what a handle holds, behind a pointer that C can keep
 //! - `buffer`: copies to a buffer of the caller
@@ -16,6 +16,7 @@ mod handle;
 mod held;
 mod log_place;
 mod log_record;
+mod more_logs;
 mod object;
 mod operations;
 mod pairs;

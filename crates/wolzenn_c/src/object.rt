@@ -2,7 +2,7 @@
 
 ghost use Rattle.std.specs.Prelude.{◌≡◌, Some};
 ghost use Rattle.std.specs.Option.{option_map};
-ghost use Rattle.wolzenn_c.specs.Objects.{as_reader, as_recovery, as_scan};
+ghost use Rattle.wolzenn_c.specs.Objects.{as_reader, as_recovered, as_recovery, as_scan};
 
 use log_batch::Batch;
 use log_in_memory::{Reading, RecoveryPairs, Scan};
@@ -16,7 +16,7 @@ pub enum Object {
     Reader(Reading),
     /// A scan of a log, which goes on after damage.
     Scan(Scan),
-    /// The pairs that were recovered from a log. Handles may share them: nobody changes them.
+    /// The pairs that were recovered from logs. Handles may share them: nobody changes them.
     Recovery(Arc<RecoveryPairs, Global>),
     /// A batch that is being built.
     Batch(Batch),
@@ -45,7 +45,8 @@ impl Object {
 
     /// The recovery, if it is one.
     pub fn recovery(&self) -> Option<&RecoveryPairs>
-        ensures { option_map (λ r. r.now.pairs.items) result ≡ as_recovery (Some self.now) }
+        ensures all { option_map (λ r. r.now) result ≡ as_recovered (Some self.now) }
+        ensures pairs { option_map (λ r. r.now.pairs.items) result ≡ as_recovery (Some self.now) }
     {
         match self {
             Object::Recovery(recovery) => Some(&**recovery),

@@ -1,18 +1,21 @@
 //! Recovery of a log.
 
-ghost use Rattle.std.specs.Prelude.{◌≡◌, ◌≢◌, ℕ, Err, Some, None, IfOk, IfErr, IfSome, MatchOption};
+ghost use Rattle.std.specs.Prelude.{◌≡◌, ◌≢◌, ◌∷◌, ℕ, [], Err, Some, None, IfOk, IfErr, IfSome, MatchOption};
 ghost use Rattle.log_recovery.specs.declared.recovery.RecoverError.TheVariants.{Fault};
 ghost use Rattle.log_recovery.specs.Modes.{TellsDamage};
-ghost use Rattle.wolzenn_c.specs.Objects.{as_recovery};
+ghost use Rattle.wolzenn_c.specs.Objects.{as_recovered, as_recovery};
 ghost use Rattle.log_in_memory.specs.Readings.{number_of};
-ghost use Rattle.wolzenn_c.specs.Recoveries.{mode_of as mode_with, IsRecovery, Recovers};
+ghost use Rattle.wolzenn_c.specs.Recoveries.{mode_of as mode_with, damage_of, IsRecovery, Recovers};
+ghost use Rattle.wolzenn_c.specs.SeveralLogs.{HoldsLogs, IsOfLogs, is_whole as whole_log};
 
 use crate::codes::{DAMAGE, DONE, NO_MEMORY, RANGE, WzEnd, end_of};
 use crate::handle::WzHandle;
 use crate::object::Object;
 use base_devices::SliceDisk;
+use log_block::header_len;
 use log_in_memory::{RecoveryPairs, log_number};
-use log_recovery::{Mode, RecoverError, recover_mode};
+use log_recovery::{End, Mode, RecoverError, recover_mode};
+use model_base::{Damage, EndReason};
 use std::alloc::Global;
 use std::sync::Arc;
 
@@ -49,6 +52,9 @@ pub extern "C" fn wz_recover(
     // summary has the end that the mode doesn't accept.
     ensures recovers { MatchOption (mode_with mode) (result ≡ RANGE) (λ m.
         Recovers (number_of number) m log.now result (as_recovery handle.new.held.object) summary.new) }
+    // A later log may go on from it (`wz_recover_more`).
+    ensures logs { result ≡ DONE
+        → HoldsLogs ((number_of number, log.now) ∷ []) (as_recovered handle.new.held.object) }
     ensures nothing { result ≢ DONE → handle.new.held.object ≡ None }
     ensures untold { result ≢ DONE → result ≢ DAMAGE → summary.new ≡ summary.old }
 {
@@ -66,13 +72,7 @@ pub extern "C" fn wz_recover(
             DONE
         }
         Err(RecoverError::Damage { log: _, at, why }) => {
-            *summary = WzRecovered {
-                groups: 0,
-                pairs: 0,
-                last: 0,
-                kept: 0,
-                end: end_of(at, why),
-            };
+            *summary = damage_at(at, why);
             DAMAGE
         }
         Err(RecoverError::NoMemory) => NO_MEMORY,
@@ -80,16 +80,30 @@ pub extern "C" fn wz_recover(
     }
 }
 
-/// These pairs as an object, if there is memory for it.
-fn object_of(alloc: Global, pairs: RecoveryPairs) -> Option<Box<Object>>
-    ensures { IfSome result (λ object. as_recovery (Some object.value) ≡ Some pairs.pairs.items) }
+/// An end that the mode doesn't accept, in numbers.
+pub fn damage_at(at: u64, why: EndReason) -> WzRecovered
+    ensures { result ≡ damage_of at why }
+{
+    WzRecovered {
+        groups: 0,
+        pairs: 0,
+        last: 0,
+        kept: 0,
+        end: end_of(at, why),
+    }
+}
+
+/// A recovery as an object, if there is memory for it.
+pub fn object_of(alloc: Global, pairs: RecoveryPairs) -> Option<Box<Object>>
+    ensures all { IfSome result (λ object. as_recovered (Some object.value) ≡ Some pairs) }
+    ensures pairs { IfSome result (λ object. as_recovery (Some object.value) ≡ Some pairs.pairs.items) }
 {
     let shared = Arc::new(alloc, pairs).ok()?;
     Box::new(alloc, Object::Recovery(shared)).ok()
 }
 
 /// The mode with this number, if there is one.
-fn mode_of(mode: u32) -> Option<Mode>
+pub fn mode_of(mode: u32) -> Option<Mode>
     ensures { result ≡ mode_with mode }
 {
     match mode {
@@ -97,6 +111,20 @@ fn mode_of(mode: u32) -> Option<Mode>
         1 => Some(Mode::Tail),
         2 => Some(Mode::Absolute),
         _ => None,
+    }
+}
+
+/// Whether a log with this number, if it has one, is whole that is kept up to an offset, and whose recovery ends like
+/// this: then recovery goes on in a later one.
+pub fn is_whole(number: Option<u32>, kept: u64, end: End) -> bool
+    ensures { result ≡ whole_log number kept end.at end.why }
+{
+    match end.why {
+        EndReason::Clean => true,
+        EndReason::Broken(Damage::OldLog(_)) => {
+            number.is_some() && end.at.saturating_sub(kept) < header_len(number) as u64
+        }
+        _ => false,
     }
 }
 
@@ -108,12 +136,14 @@ fn recovered(
     log: &[u8],
 ) -> Result<(RecoveryPairs, WzRecovered), RecoverError>
     ensures ok { IfOk result (λ r. IsRecovery number mode log.now r.0.pairs.items r.1) }
+    ensures logs { IfOk result (λ r. IsOfLogs ((number, log.now) ∷ []) r.0) }
     ensures err { IfErr result (TellsDamage number mode log.now) }
     ensures no_fault { (count : ℕ) → result ≢ Err (Fault count) }
 {
     let mut disk = SliceDisk::new(log);
     let recovered = recover_mode(alloc, &mut disk, number, mode)?;
-    let pairs = RecoveryPairs::of(alloc, &recovered.map)?;
+    let whole = is_whole(number, recovered.kept, recovered.end);
+    let pairs = RecoveryPairs::of(alloc, &recovered.map, recovered.last, whole)?;
     let summary = WzRecovered {
         groups: recovered.groups.len(),
         pairs: pairs.pairs.len(),

@@ -2,7 +2,7 @@
 
 ghost use Rattle.std.specs.Prelude.{◌≡◌, ◌≢◌, ◌⊎◌, Some, None, MatchOption};
 ghost use Rattle.std.specs.Arc.{arc_value};
-ghost use Rattle.wolzenn_c.specs.Objects.{as_recovery};
+ghost use Rattle.wolzenn_c.specs.Objects.{as_recovered};
 
 use crate::codes::{CLOSED, DONE, NO_MEMORY};
 use crate::handle::WzHandle;
@@ -24,8 +24,8 @@ pub extern "C" fn wz_recovery_share(
     other: &mut WzHandle,
 ) -> u32
     ensures same { handle.new.held.object ≡ handle.old.held.object }
-    ensures shared { MatchOption (as_recovery handle.old.held.object) (result ≡ CLOSED)
-        (λ pairs. ((result ≡ DONE) × (as_recovery other.new.held.object ≡ Some pairs)) ⊎ (result ≡ NO_MEMORY)) }
+    ensures shared { MatchOption (as_recovered handle.old.held.object) (result ≡ CLOSED)
+        (λ held. ((result ≡ DONE) × (as_recovered other.new.held.object ≡ Some held)) ⊎ (result ≡ NO_MEMORY)) }
     ensures nothing { result ≢ DONE → other.new.held.object ≡ None }
 {
     other.clear(alloc);
@@ -43,7 +43,7 @@ pub extern "C" fn wz_recovery_share(
 /// Puts a recovery into another handle, which holds nothing.
 fn put_again(alloc: Global, recovery: &Arc<RecoveryPairs, Global>, other: &mut WzHandle) -> u32
     requires { other.old.held.object ≡ None }
-    ensures shared { ((result ≡ DONE) × (as_recovery other.new.held.object ≡ Some (arc_value recovery.now).pairs.items))
+    ensures shared { ((result ≡ DONE) × (as_recovered other.new.held.object ≡ Some (arc_value recovery.now)))
         ⊎ (result ≡ NO_MEMORY) }
     ensures nothing { result ≢ DONE → other.new.held.object ≡ None }
 {

@@ -151,6 +151,14 @@ extern "C" {
         log_len: usize,
         summary: *mut RawRecovered,
     ) -> u32;
+    fn wz_recover_more(
+        handle: *mut RawHandle,
+        number: u32,
+        mode: u32,
+        log: *const u8,
+        log_len: usize,
+        summary: *mut RawRecovered,
+    ) -> u32;
     fn wz_pair_len(handle: *mut RawHandle, index: usize, lens: *mut RawPairLens) -> u32;
     fn wz_pair(
         handle: *mut RawHandle,
@@ -259,6 +267,24 @@ fn end_of(raw: &RawEnd) -> End {
         why => unreachable!("the reason {why} of the library"),
     };
     End { at: raw.at, why }
+}
+
+fn mode_of(mode: Mode) -> u32 {
+    match mode {
+        Mode::Point => 0,
+        Mode::Tail => 1,
+        Mode::Absolute => 2,
+    }
+}
+
+/// What a recovery says, by its code.
+fn summary_of(code: u32, raw: RawRecovered) -> Result<Summary, Error> {
+    let RawRecovered { groups, pairs, last, kept, end } = raw;
+    if code == DAMAGE {
+        return Err(Error::Damage(end_of(&end)));
+    }
+    done(code)?;
+    Ok(Summary { groups, pairs, last, kept, end: end_of(&end) })
 }
 
 /// A handle that holds a reader, a scan, a recovery or a batch. It isn't `Sync`, so no two calls use it at once, and no
@@ -391,21 +417,29 @@ impl Handle {
     }
 
     pub fn recovery(log: &[u8], number: Option<NonZeroU32>, mode: Mode) -> Result<(Handle, Summary), Error> {
-        let handle = Handle::empty();
-        let mode = match mode {
-            Mode::Point => 0,
-            Mode::Tail => 1,
-            Mode::Absolute => 2,
-        };
-        let mut raw = RawRecovered::default();
+        let (handle, mut raw) = (Handle::empty(), RawRecovered::default());
+        let (number, mode, len) = (number_of(number), mode_of(mode), log.len());
         // SAFETY: the handle holds nothing, and the summary is ours alone.
-        let code = unsafe { wz_recover(handle.raw.get(), number_of(number), mode, log.as_ptr(), log.len(), &mut raw) };
-        if code == DAMAGE {
-            return Err(Error::Damage(end_of(&raw.end)));
+        let code = unsafe { wz_recover(handle.raw.get(), number, mode, log.as_ptr(), len, &mut raw) };
+        Ok((handle, summary_of(code, raw)?))
+    }
+
+    /// Recovers one more log, or `None` where recovery has ended in an earlier one. At an error the handle holds what
+    /// it held.
+    pub fn recover_more(
+        &mut self,
+        log: &[u8],
+        number: Option<NonZeroU32>,
+        mode: Mode,
+    ) -> Result<Option<Summary>, Error> {
+        let mut raw = RawRecovered::default();
+        let (number, mode, len) = (number_of(number), mode_of(mode), log.len());
+        // SAFETY: the handle is ours alone, and so is the summary.
+        let code = unsafe { wz_recover_more(self.raw.get(), number, mode, log.as_ptr(), len, &mut raw) };
+        if code == END {
+            return Ok(None);
         }
-        done(code)?;
-        let RawRecovered { groups, pairs, last, kept, end } = raw;
-        Ok((handle, Summary { groups, pairs, last, kept, end: end_of(&end) }))
+        summary_of(code, raw).map(Some)
     }
 
     /// The family of a pair's key, and how many bytes its key and its value have, if it is there.

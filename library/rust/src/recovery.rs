@@ -28,7 +28,7 @@ pub struct Pair {
     pub value: Vec<u8>,
 }
 
-/// What a log recovers: the pairs of key and value that its batches leave.
+/// What a log recovers: the pairs of key and value that its batches leave; or several logs, one after another.
 #[derive(Debug)]
 pub struct Recovery {
     held: Handle,
@@ -57,8 +57,9 @@ impl Place {
     /// Moves it to the end of the last record that [`recover`] keeps, where the log may be resumed, and answers where
     /// recovery ends. No pairs are made. Of a log that has grown since the last call only what came after that is read;
     /// `log` is nevertheless all that it has by now. [`Error::PastEnd`] if the log ends before the place, which stays
-    /// then. Whether the log is kept up to the place isn't looked at: from any other
-    /// place it is read as if it were.
+    /// then. Whether the log is kept up to the place isn't looked at: from any other place it is read as if it were.
+    /// For a log that follows another one, which is whole ([`Recovery::recover_more`] says when), it starts at the
+    /// offset 0 with the last sequence of that one.
     pub fn advance(&mut self, log: &[u8], number: Option<NonZeroU32>) -> Result<End, Error> {
         raw::recover_place(log, number, self)
     }
@@ -69,6 +70,24 @@ impl Recovery {
     /// them.
     pub fn share(&self) -> Result<Recovery, Error> {
         Ok(Recovery { held: self.held.shared()?, summary: self.summary.clone() })
+    }
+
+    /// Recovers one more log with this number, if it has one: the log that was written right after those of this
+    /// recovery. Its batches change the pairs, and their sequences must rise above [`last`](Recovery::last). So several
+    /// logs are recovered in the order in which they were written. From then on [`groups`](Recovery::groups),
+    /// [`kept`](Recovery::kept) and [`end`](Recovery::end) are about this log, and the rest about all of them.
+    ///
+    /// Whether it was: not if an earlier log isn't whole, since recovery ended in that one. A log is whole whose end is
+    /// [`Why::Clean`](crate::Why::Clean), or, if it has a number, [`Why::OldLog`](crate::Why::OldLog) right after the
+    /// last record kept. `Error::Damage` where the mode doesn't accept the end; at an error the recovery stays as it
+    /// was. Each call copies the pairs of all logs so far: a recovery that was [shared](Recovery::share) before keeps
+    /// its own.
+    pub fn recover_more(&mut self, log: &[u8], number: Option<NonZeroU32>, mode: Mode) -> Result<bool, Error> {
+        let Some(summary) = self.held.recover_more(log, number, mode)? else {
+            return Ok(false);
+        };
+        self.summary = summary;
+        Ok(true)
     }
 
     /// How many records of the log are recovered. Each is one batch.

@@ -104,6 +104,50 @@ fn a_recovery_that_threads_share() {
 }
 
 #[test]
+fn logs_in_turn() {
+    let mut batch = Batch::new().unwrap();
+    let mut log_with = |first, key: &[u8], value: Option<&[u8]>, number| {
+        batch.clear();
+        match value {
+            Some(value) => batch.put(key, value).unwrap(),
+            None => batch.delete(key).unwrap(),
+        }
+        batch.set_sequence(first);
+        log_of(&[&batch.bytes()], number)
+    };
+    for number in [None, NonZeroU32::new(7)] {
+        let (one, two) = (log_with(1, b"a", Some(b"1"), number), log_with(3, b"b", Some(b"2"), number));
+        let (three, lower) = (log_with(4, b"a", None, number), log_with(3, b"a", None, number));
+        let mut recovery = recover(&one, number, Mode::Absolute).unwrap();
+        let shared = recovery.share().unwrap();
+        assert_eq!(recovery.recover_more(&two, number, Mode::Absolute), Ok(true));
+        assert_eq!((recovery.groups(), recovery.len(), recovery.last()), (1, 2, 3));
+        // A log that the mode refuses changes nothing.
+        let refused = recovery.recover_more(&three[..three.len() - 1], number, Mode::Absolute);
+        assert_eq!(refused, Err(Error::Damage(End { at: 0, why: Why::BadLength })));
+        assert_eq!((recovery.groups(), recovery.len(), recovery.last()), (1, 2, 3));
+        assert_eq!(recovery.recover_more(&three, number, Mode::Point), Ok(true));
+        assert_eq!((recovery.get(b"a"), recovery.get(b"b").as_deref()), (None, Some(&b"2"[..])));
+        assert_eq!((shared.get(b"a").as_deref(), shared.last()), (Some(&b"1"[..]), 1));
+        // Its sequence doesn't rise, so that recovery ends in it.
+        assert_eq!(recovery.recover_more(&lower, number, Mode::Point), Ok(true));
+        assert_eq!((recovery.groups(), recovery.kept(), recovery.last()), (0, 0, 4));
+        assert_eq!(recovery.end(), End { at: 0, why: Why::Order { first: 3, last: 4 } });
+        assert_eq!(recovery.recover_more(&log_with(9, b"c", Some(b""), number), number, Mode::Point), Ok(false));
+        assert_eq!((recovery.len(), recovery.last()), (1, 4));
+    }
+    // A log that was written over an older one is whole where the older one's fragment comes next.
+    let (six, seven) = (NonZeroU32::new(6), NonZeroU32::new(7));
+    let mut over = log_with(1, b"a", Some(b"1"), seven);
+    over.extend(log_with(9, b"x", Some(b"9"), six));
+    let mut recovery = recover(&over, seven, Mode::Point).unwrap();
+    assert_eq!(recovery.end().why, Why::OldLog(6));
+    let later = log_with(2, b"b", Some(b"2"), NonZeroU32::new(8));
+    assert_eq!(recovery.recover_more(&later, NonZeroU32::new(8), Mode::Absolute), Ok(true));
+    assert_eq!((recovery.len(), recovery.last(), recovery.end().why), (2, 2, Why::Clean));
+}
+
+#[test]
 fn a_place_that_advances() {
     let mut second = BATCH.to_vec();
     second[0] = 2;
