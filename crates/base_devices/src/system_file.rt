@@ -157,9 +157,9 @@ impl<R: Files<File = File> + Drop> SystemFile<R> {
         self.sync_entry()
     }
 
-    /// Makes the entry in the folder safe, if it isn't yet. If the folder may not be read nothing can make it safe. That
-    /// is an error only after an append: without one there is nothing new that needs the entry. The next call tries
-    /// again.
+    /// Makes the entry in the folder safe, if it isn't yet. If the folder may not be read nothing can make it safe.
+    /// That is an error only after an append: without one there is nothing new that needs the entry. The next call
+    /// tries again.
     fn sync_entry(&mut self) -> io::Result<()>
         ensures adds_none { added_to self.new ≡ added_to self.old }
     {
@@ -176,8 +176,8 @@ impl<R: Files<File = File> + Drop> SystemFile<R> {
         }
     }
 
-    /// Opens the file to change it, if it isn't open yet, and makes it if there is none. It is an error if the access is
-    /// `Read`.
+    /// Opens the file to change it, if it isn't open yet, and makes it if there is none. It is an error if the access
+    /// is `Read`.
     fn open_to_change(&mut self) -> io::Result<()>
         ensures ready { OnOk result (self.new.measured ≡ true) }
         ensures adds_none { added_to self.new ≡ added_to self.old }

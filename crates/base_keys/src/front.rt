@@ -10,12 +10,12 @@ use std::cmp::Ordering;
 use std::marker::Model;
 
 /// How many bytes a front has.
-pub const FRONT_LEN: usize = 16;
+const FRONT_LEN: usize = 16;
 
 /// The first bytes of a key, filled up with zeros if the key is shorter. Contracts see these 16 bytes.
 #[derive(Clone, Copy, Debug)]
 pub struct Front {
-    pub(crate) bytes: [u8; FRONT_LEN],
+    bytes: [u8; FRONT_LEN],
 }
 
 impl Model for Front {

@@ -18,7 +18,8 @@ pub fn layouts_of_tags()
     ensures range { layout_of 0x0f ≡ Some (record { names_family = false; strings = 2; counts = true }) }
     ensures blob_in_family { layout_of 0x10 ≡ Some (record { names_family = true; strings = 2; counts = true }) }
     ensures deletion_with_timestamp { layout_of 0x14 ≡ None }
-    ensures commit_with_timestamp { layout_of 0x15 ≡ Some (record { names_family = false; strings = 2; counts = false }) }
+    ensures commit_with_timestamp { layout_of 0x15
+        ≡ Some (record { names_family = false; strings = 2; counts = false }) }
     ensures wide_columns { layout_of 0x16 ≡ Some (record { names_family = false; strings = 2; counts = true }) }
     ensures last { layout_of 0x19 ≡ Some (record { names_family = true; strings = 2; counts = true }) }
     ensures after_last { layout_of 0x1a ≡ None }

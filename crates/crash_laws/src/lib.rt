@@ -75,9 +75,9 @@ pub fn killed_process_keeps_all<D: Disk>()
     // So it is for a call that resumes over the file.
     ensures resumed { (earlier later : Call ⟦<D as Disk>⟧) (n : ℕ) (file : List ℕ) → IsKilledAfter earlier n file
         → Resumes earlier file later → IsAfterKill earlier n file later.ran.before }
-    // If no call was under way, and the log was opened as `run` opens it, the file of a new or resumed log is exactly the
-    // text of what was written. So nothing more is found. That it was opened so is a premise of its own: no clause of a
-    // call says it of such a moment.
+    // If no call was under way, and the log was opened as `run` opens it, the file of a new or resumed log is exactly
+    // the text of what was written. So nothing more is found. That it was opened so is a premise of its own: no clause
+    // of a call says it of such a moment.
     ensures rests { (call : Call ⟦<D as Disk>⟧) (n : ℕ) (file : List ℕ) (killed : IsKilledAfter call n file)
         → IsAtRest killed → (file ≡ text_of_first call n) × HasNoMore call n file }
     // Before the log has begun, the file still has what it keeps.

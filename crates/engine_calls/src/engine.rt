@@ -244,8 +244,8 @@ pub trait Engine {
             × Keeps (account client.old) (account client.new)) };
 
     /// Takes the client's slow token, with a rate in bytes a second; a rate of 0 counts as 1. While any client holds
-    /// one, a leader lets a group of writes wait whose bytes are more than what the newest rate has let pass, and refuses
-    /// it where it may not wait. Where the client already holds one, no call is made.
+    /// one, a leader lets a group of writes wait whose bytes are more than what the newest rate has let pass, and
+    /// refuses it where it may not wait. Where the client already holds one, no call is made.
     fn slow<R: Wait + rt::Clock>(
         &self,
         rt: &R,

@@ -60,7 +60,8 @@ impl<Time: Clock> Controller<Time> {
                     Err(other) => found = other,
                 }
             } else {
-                // One token call more would not be counted, so none is made: the client waits for ever.
+                // A token call more would not be counted, and what follows couldn't tell how many there were: so no
+                // call is made, and the client waits for ever.
                 found = load::<Sight, R>(&self.cell, rt, seat);
             }
         }

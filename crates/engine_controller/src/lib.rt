@@ -27,7 +27,7 @@
 //! | `stop`, `unstop` | takes the client's stop token; gives it back |
 //! | `slow`, `unslow` | takes the client's slow token, with a rate; gives it back |
 //! | `end` | gives back the tokens that the client holds |
-//! | `delay` | how long some bytes have to wait, by a clock while writes are stopped or slowed; and the counts of tokens |
+//! | `delay` | how long some bytes have to wait, by a clock where writes are stopped or slowed, and the token counts |
 //! | `look` | the counts of tokens |
 //! | `look_at_stall` | the same, and which client was the last one to learn that writes are held up |
 //! | `note`, `copies`, `learn` | carry what one pass has seen to another, and make no call |

@@ -125,7 +125,8 @@ pub fn list_and_core<Request, Reply>()
     ensures stall { (writer_of : QueuedWriter Request → Writer) (reply_of : Reply → CoreReply) (o : Options)
         (s : State) (a b : Lists Request Reply) (old built : List Writer) (lead : Lead Request Reply)
         → StandsAs writer_of reply_of old a s → s.log ≡ in_hand built → is_alone built ≡ false
-        → is_no_slowdown built ≡ false → IsStall lead a b → IsTaken writer_of reply_of o (core.Stall lead.own.by) s [] b }
+        → is_no_slowdown built ≡ false → IsStall lead a b
+        → IsTaken writer_of reply_of o (core.Stall lead.own.by) s [] b }
     // A leader that reads the log alone has its answer while the lists stay as they are, and then leaves with it. That
     // its client leads no group of the second list is a premise.
     ensures read { (writer_of : QueuedWriter Request → Writer) (reply_of : Reply → CoreReply) (o : Options)

@@ -28,8 +28,8 @@ use crate::words::{STALL, STATE_DONE, STATE_IN_LIST, STATE_LEADS_LOG};
 /// place, what was handled, and for what of it the clients haven't got their replies yet: that is the state after a
 /// list of legal events. The client that has the log is the one that leads by these events, and the one that is woken
 /// is the oldest of the queue. The events are: a writer links, the oldest writer is elected, a leader builds its group
-/// under the list's bound, a group leaves, and a client gets its reply. Events are only added: a client that waits knows
-/// those up to its coming, and a leader those up to the building of its group.
+/// under the list's bound, a group leaves, and a client gets its reply. Events are only added: a client that waits
+/// knows those up to its coming, and a leader those up to the building of its group.
 ///
 /// The walk from the second list's newest writer is its groups, and the leader of the oldest one has the right, or
 /// will have it. No client is in both lists. From group to group, what was given runs goes on from what the right

@@ -22,7 +22,7 @@ use crate::words::{STALL, STATE_DONE};
 /// at the store that sets a link past it, and gets its reply later. While writes are stalled nobody links, and no group
 /// leaves. A writer that is about to link may go back instead, which is no event.
 ///
-/// A load that finds the marker in the place of the newest writer is one by which a leader stalls writes at that moment.
+/// A load that finds the marker in the place of the newest writer is one by which a leader stalls writes just then.
 pub fn stall_steps_and_events<
     Request: HasGroupingItem,
     Reply: GivesRun,

@@ -16,8 +16,8 @@ use log_scan::{Found, Unread};
 use model_base::NoMemory;
 use std::alloc::Global;
 
-/// What is counted of a log: the records that would be shown, their first and their greatest sequence, their operations,
-/// and the stretches that don't read with all their bytes. Numbers stop at the greatest `u64`.
+/// What is counted of a log: the records that would be shown, their first and their greatest sequence, their
+/// operations, and the stretches that don't read with all their bytes. Numbers stop at the greatest `u64`.
 #[derive(Drop)]
 pub struct Totals {
     pub records: u64,

@@ -10,7 +10,8 @@ pub fn shown_bytes()
     ensures hex { word rows.plain_hex (codes "k1") ≡ codes "6b31" }
     ensures nothing { word rows.plain_hex [] ≡ codes "-" }
     ensures text { word rows.plain_text (codes "k 1") ≡ codes "\"k 1\"" }
-    ensures escapes { word rows.plain_text (0 ∷ 34 ∷ 92 ∷ 126 ∷ 127 ∷ 255 ∷ []) ≡ codes "\"\\x00\\x22\\\\~\\x7f\\xff\"" }
+    ensures escapes { word rows.plain_text (0 ∷ 34 ∷ 92 ∷ 126 ∷ 127 ∷ 255 ∷ [])
+        ≡ codes "\"\\x00\\x22\\\\~\\x7f\\xff\"" }
     ensures no_text { word rows.plain_text [] ≡ codes "\"\"" }
     ensures json_hex { word rows.json_hex (codes "k1") ≡ codes "\"6b31\"" }
     ensures json_text { word rows.json_text (107 ∷ 34 ∷ 255 ∷ []) ≡ codes "\"k\\u0022\\u00ff\"" }

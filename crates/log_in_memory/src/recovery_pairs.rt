@@ -41,7 +41,7 @@ pub struct RecoveryPairs {
     pub pairs: Vec<FamilyPair>,
     /// The last sequence of these logs, 0 where there is none.
     pub last: u64,
-    /// Whether the last one of them ended clean, so that recovery goes on in a later log.
+    /// Whether the last one of them is whole, so that recovery goes on in a later log.
     pub goes_on: bool,
     ghost ordered: { IsStrictlySortedBy key_order (keys_of pairs.items) } by { Prim.hlevel props },
 }

@@ -44,8 +44,8 @@ RecoverPrefix records files P = (r : RecoveredLogs) → AreRecovered plain_log f
 abbrev pub HadRoom : ℕ → List (List ℕ) → Type 0
 HadRoom limit records = 1 < length records → length (plain_text (take (length records - 1) records)) < limit
 
--- The records of logs that were filled one after another: each but the last one has as many bytes as the limit, and came
--- to that by its last record. The last one had room for its last record too, unless no other log was left after it.
+-- The records of logs that were filled one after another: each but the last one has as many bytes as the limit, and
+-- came to that by its last record. The last one had room for its last record too, unless no log was left after it.
 pub data AreFilledTo (limit : ℕ) : ℕ → List (List (List ℕ)) → Type 0 where
   last_one : {left : ℕ} {records : List (List ℕ)} → (0 < left → HadRoom limit records)
       → AreFilledTo limit left (records ∷ [])

@@ -15,7 +15,7 @@ use std::alloc::Global;
 
 /// Recovers one more log of those that were written one after another. `pairs` is the map that the logs before it left,
 /// and `last` their last sequence: the log's runs must rise above it. So logs are recovered one by one, each with its
-/// own number, as long as the one before it ended clean.
+/// own number, as long as the one before it is whole, which the caller decides.
 ///
 /// The answer's map and last sequence are those of all logs, and the rest is about this one. It is read as by
 /// `recover_mode`, with the same errors; at an error the map is gone. `Damage` says that it is the first log, since

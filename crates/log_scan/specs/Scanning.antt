@@ -25,7 +25,8 @@ pub data Skips (number : Option ℕ) (goes_on : Bool) (file : List ℕ) (from : 
   skipped_first : {at here : ℕ} {why : EndReason} → ReadingEnds number file from at why
       → later_place number goes_on file at why ≡ Some here
       → Skips number goes_on file from here (Some (record { at = at; why = why }))
-  skipped_again : {before at here : ℕ} {why : EndReason} {lost : Lost} → Skips number goes_on file from before (Some lost)
+  skipped_again : {before at here : ℕ} {why : EndReason} {lost : Lost}
+      → Skips number goes_on file from before (Some lost)
       → ReadingEnds number file before at why → later_place number goes_on file at why ≡ Some here
       → Skips number goes_on file from here (Some lost)
 

@@ -112,8 +112,8 @@ impl Scanner {
         })
     }
 
-    /// A scanner of a log with this number, if it has one, which begins at an offset: the end of a record that was found
-    /// before, or any other place at which a record may begin. It reads the block that has the place.
+    /// A scanner of a log with this number, if it has one, which begins at an offset: the end of a record that was
+    /// found before, or any other place at which a record may begin. It reads the block that has the place.
     pub fn open_at<R: ReadAt>(
         alloc: Global,
         number: Option<u32>,
@@ -167,8 +167,8 @@ impl Scanner {
         ensures disk { R.only_reads disk.old disk.new }
     {
         match self.reader.next(disk) {
-            // A record ends after the place from which it is read. Where the disk tells nothing no clause says so: its file
-            // may have been cut, and have grown anew. Then this is where it ends.
+            // A record ends after the place from which it is read. Where the disk tells nothing no clause says so: its
+            // file may have been cut, and have grown anew. Then this is where it ends.
             Next::Record { start, end } if end > self.here => self.find(start, end),
             Next::Record { start, .. } => Found::End {
                 at: start,

@@ -24,16 +24,16 @@ pub struct LogUpdates {
 }
 
 /// Of the records of an open log, those that take sequences, the last of them `since` or a later one and not above
-/// `upto`, in order. Nothing is read before the place `from`, which the caller knows: it is [`LogPlace::start`], or what
-/// an earlier call answered. It reads on in the next log where one was read to its end, and stops at the first record
-/// that goes past `upto`.
+/// `upto`, in order. Nothing is read before the place `from`, which the caller knows: it is [`LogPlace::start`], or
+/// what an earlier call answered. It reads on in the next log where one was read to its end, and stops at the first
+/// record that goes past `upto`.
 ///
-/// The place that is answered is the end of a record, or `from`, and all that was asked for is before it. It is never in
-/// a log that has no bytes yet. So a call that begins there later misses nothing that was written meanwhile, in whichever
-/// log.
+/// The place that is answered is the end of a record, or `from`, and all that was asked for is before it. It is never
+/// in a log that has no bytes yet. So a call that begins there later misses nothing that was written meanwhile, in
+/// whichever log.
 ///
-/// The error is `Fault` where a read failed, with the count of all disks, and `NoMemory` where there was no memory for a
-/// block or a record. It is never `Damage`. The log is left as it was, and can still be written.
+/// The error is `Fault` where a read failed, with the count of all disks, and `NoMemory` where there was no memory for
+/// a block or a record. It is never `Damage`. The log is left as it was, and can still be written.
 pub fn updates_of_logs<Log: ReadableLog>(
     alloc: Global,
     log: &mut Log,

@@ -35,8 +35,8 @@ pub fn beginnings<D: Disk>()
         → IfSome (D.told disk) (λ d. take (length b.kept) d.content ≡ b.kept) → HasBegun b disk log }
 {}
 
-/// What a log has as it is opened, where its disk tells what it holds: nothing, or the batches of which the bytes that it
-/// keeps are the text.
+/// What a log has as it is opened, where its disk tells what it holds: nothing, or the batches of which the bytes that
+/// it keeps are the text.
 pub fn kept_at_first<D: Disk>()
     ensures opened { (disk : D) (log : Log D ⟦<D as Disk>⟧) → IsTold ⟦<D as Disk>⟧ disk → HasOpened disk log
         → KeepsBatches log [] }

@@ -67,8 +67,8 @@ abbrev pub Scans : Options → State → List Call → ℕ → List ℕ → List
 Scans o s before family lo hi (rows at pairs) = ReadsAt o s before at (λ m. pairs ≡ rows_within family lo hi m)
 Scans o s before family lo hi other = ⊥
 
--- A read of the log, at such a boundary: its groups up to there have all logged entries up to there and no other, and the
--- records of those are given that begin or go on at the sequence n or a later one.
+-- A read of the log, at such a boundary: its groups up to there have all logged entries up to there and no other, and
+-- the records of those are given that begin or go on at the sequence n or a later one.
 pub record ReadsLog (o : Options) (s : State) (before : List Call) (n at : ℕ) (records : List (List ℕ)) : Type 0 where
   pub reads : ReadsAt o s before at (λ m. ⊤)
   pub groups : List (List Entry)
@@ -173,8 +173,8 @@ pub record AreRepliesOf (o : Options) (plans : List (List Command)) (s : State) 
   pub each : (c : ℕ) (lines : List Command) (client : Client) → lines_at plans c ≡ Some lines
       → client_at s c ≡ Some client → IsAnswered o s c lines client
 
--- If this is the reply to a read of the map, the read was at this sequence or a later one. A read of the log is answered
--- before its client gets the answer.
+-- If this is the reply to a read of the map, the read was at this sequence or a later one. A read of the log is
+-- answered before its client gets the answer.
 abbrev pub IsFrom : ℕ → Reply → Type 0
 IsFrom last (found at v) = last ≤ at
 IsFrom last (found_each at vs) = last ≤ at

@@ -90,7 +90,8 @@ log_group s c other = None
 -- fault c: c leads the group that was built, which writes. All its members leave, and the log has failed
 abbrev pub fault : State → ℕ → LogPhase → Option State
 fault s c (built ws) =
-    when (leads c ws && not (is_alone ws)) (record (leave s (all_answered (refused (no.LogFault 1)) ws)) { log = free; log_failed = true })
+    when (leads c ws && not (is_alone ws))
+    (record (leave s (all_answered (refused (no.LogFault 1)) ws)) { log = free; log_failed = true })
 fault s c other = None
 
 -- refuse c: c leads the group that was built, and the group may not be slowed down. All its members leave
@@ -103,7 +104,7 @@ refuse s c why (built ws) =
     when (leads c ws && is_no_slowdown ws) (record (leave s (all_answered (refused why) ws)) { log = free })
 refuse s c why other = None
 
--- stall c: c leads the group that was built, which writes and may be slowed down. Until `unstall c` its log isn't written
+-- stall c: c leads the group that was built, which writes and may be slowed down. Until `unstall c` no log is written
 abbrev pub stall : State → ℕ → LogPhase → Option State
 stall s c (built ws) =
     when (leads c ws && not (is_alone ws) && not (is_no_slowdown ws)) (record s { log = stalled ws })

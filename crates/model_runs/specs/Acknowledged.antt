@@ -12,9 +12,9 @@ use Rattle.model_base.specs.Runs.{Step, Run}
 use Rattle.model_base.specs.Calls.{commit, accepted, Call}
 use Rattle.model_base.specs.LogContents.{GroupCall}
 
--- A client with these calls was told `ok` of this batch, which it had asked to be synced, under the run that begins with
--- `first`. By then it knew that the first `knew` calls of the log writer had returned, and its accepted batches were its
--- first entries in the trace.
+-- A client with these calls was told `ok` of this batch, which it had asked to be synced, under the run that begins
+-- with `first`. By then it knew that the first `knew` calls of the log writer had returned, and its accepted batches
+-- were its first entries in the trace.
 pub record IsAcknowledged (settings : Settings) (trace : Trace) (client : ℕ) (calls : List Call) (first knew : ℕ)
     (records : List Record) : Type 0 where
   pub before : List Call

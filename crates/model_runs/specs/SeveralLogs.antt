@@ -28,9 +28,9 @@ pub record Held : Type 0 where
   pub place : ℕ
 
 -- What the disks hold at the end. Each log before the last one that was begun has its text alone. The last one has its
--- text, and nothing else where no call failed; where one did, it has up to its place, which is at the log's end or after
--- it, its text and a front of the text of the failed call's record `x`, and nothing that nobody wrote. What is after
--- the place was left by the disk's own call, which failed. The others have nothing.
+-- text, and nothing else where no call failed; where one did, it has up to its place, which is at the log's end or
+-- after it, its text and a front of the text of the failed call's record `x`, and nothing that nobody wrote. What is
+-- after the place was left by the disk's own call, which failed. The others have nothing.
 pub data HoldLogs (x : Option (List ℕ)) : List (List (List Entry)) → List Held → Type 0 where
   last_one : {groups : List (List Entry)} {held : Held} {others : List Held}
       → (x ≡ None → held.content ≡ plain_text (records_of groups))
@@ -100,8 +100,8 @@ module _ (group_bytes : ℕ) (attempts : List (List Attempt)) (o : Outcome) (log
     pub at_end : LeaveFrontPrefix now (HaveSynced all_groups)
 
 -- What the logs of a run hold, and what a crash leaves of them. A batch that was to be synced is safe from the moment
--- on at which its client got its `ok`. The client then knew of calls that had returned, and once these have, the batch's
--- group is among the records that are there for certain.
+-- on at which its client got its `ok`. The client then knew of calls that had returned, and once these have, the
+-- batch's group is among the records that are there for certain.
 pub record AreSafe {settings : Settings} {ended : ℕ} {script : List (List Command)} {limit disks : ℕ}
     {wrote : List GroupCall → List ℕ → Type 0} {o : Outcome}
     (run : IsRunOverLogs settings ended script limit disks wrote o) (held : List Held) (reached : List ℕ)

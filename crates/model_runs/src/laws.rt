@@ -37,6 +37,6 @@ pub fn one_log_of_several()
         → AreSafe run (held ∷ []) (reach ∷ []) (λ images. images ≡ a ∷ [])
         (λ before after images. images ≡ b before after ∷ []) (λ images. images ≡ c ∷ [])
         → (one : IsRun settings ended script new_log (λ made. made ≡ calls) o)
-        × IsSafe one [] held.content held.place reach (λ image. image ≡ a) (λ before after image. image ≡ b before after)
-        (λ image. image ≡ c) }
+        × IsSafe one [] held.content held.place reach (λ image. image ≡ a)
+        (λ before after image. image ≡ b before after) (λ image. image ≡ c) }
 {}

@@ -44,8 +44,8 @@ pub fn held_by_several_logs()
         (held_up_to_its_end text_of_first ∷ held_up_to_its_end (zeros 1) ∷ []) → ⊥ }
 {}
 
-/// A log is left for the next one as the first group comes that finds it full, neither later nor earlier. The log of one
-/// group has 24 bytes.
+/// A log is left for the next one as the first group comes that finds it full, neither later nor earlier. The log of
+/// one group has 24 bytes.
 pub fn filled_one_after_another()
     ensures in_two { AreFilledTo 24 0 (map records_of in_two_logs) }
     ensures third_not_begun { AreFilledTo 24 1 (map records_of in_two_logs) }

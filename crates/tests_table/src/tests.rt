@@ -1,7 +1,7 @@
-//! Keys, the tree and the tables. What several of these tests share is in `nodes` and in `rows`.
+//! Fronts, the tree and the tables. What several of these tests share is in `nodes` and in `rows`.
 
 mod at_once;
-mod keys;
+mod fronts;
 mod nodes;
 mod over_maps;
 mod rows;
