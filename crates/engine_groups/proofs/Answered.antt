@@ -192,20 +192,20 @@ module _ {C D : Type 0} {ghosts : Ghosts D} (controller : Controller C) (opened 
 
   pub answered_ok : (r : Receipt) → p.answer ≡ Ok r → r.group_last ≤ last_of start now → Wrote settings old q.batch.records q.options r.run.first r.group_last new
   answered_ok r ok reached = subst (Wrote settings old q.batch.records q.options r.run.first r.group_last) new_is
-      (wrote start opening k (own_commits k mine) (own_sights k mine) (own_answers mine) (commit k q p) (sight k q p) seen now sees known after more free within in_order.0 (commits_in handled) kept.answered is settings r.run.first r.group_last (ap answer_in ok) passed (subst (IsAbove (last_of start seen)) ok above) reached
-      (batch_shown r.run.first r.group_last (ap answer_in ok)) (never_shown r ok) said_by_then)
+      (wrote start opening k (own_commits k mine) (own_sights k mine) (own_answers mine) (commit k q p) (sight k q p) seen now sees known after more free within said_by_then in_order.0 (commits_in handled) kept.answered is settings r.run.first r.group_last (ap answer_in ok) passed (subst (IsAbove (last_of start seen)) ok above) reached
+      (batch_shown r.run.first r.group_last (ap answer_in ok)) (never_shown r ok))
 
   refused_by : (why : Refusal) (e : Refused) → e.why ≡ why → p.answer ≡ Err e → IsLate why → IsRefused old q.batch.records q.options why new
   refused_by (LogFault n) e is_why err late = subst (IsRefused old q.batch.records q.options (LogFault n)) new_is
-      (refused_failed start opening k (own_commits k mine) (own_sights k mine) (own_answers mine) (commit k q p) (sight k q p) seen now sees known after more free within in_order.0 n (ap answer_in err ∙ ap answer_of_refusal is_why))
+      (refused_failed start opening k (own_commits k mine) (own_sights k mine) (own_answers mine) (commit k q p) (sight k q p) seen now sees known after more free within said_by_then in_order.0 n (ap answer_in err ∙ ap answer_of_refusal is_why))
   refused_by (SequenceFull l) e is_why err late = subst (IsRefused old q.batch.records q.options (SequenceFull l)) new_is
-      (refused_full start opening k (own_commits k mine) (own_sights k mine) (own_answers mine) (commit k q p) (sight k q p) seen now sees known after more free within in_order.0 (commits_in handled) kept.answered is l (ap answer_in err ∙ ap answer_of_refusal is_why) (subst (IsAbove (last_of start seen)) err above l is_why))
+      (refused_full start opening k (own_commits k mine) (own_sights k mine) (own_answers mine) (commit k q p) (sight k q p) seen now sees known after more free within said_by_then in_order.0 (commits_in handled) kept.answered is l (ap answer_in err ∙ ap answer_of_refusal is_why) (subst (IsAbove (last_of start seen)) err above l is_why))
   refused_by (Incomplete s d w) e is_why err late =
       let numbers : Look = record { stops = s; delays = d; wait = w } in
       let told : answer_in p.answer ≡ held_up numbers = ap answer_in err ∙ ap answer_of_refusal is_why in
       let h = shows.1.held_up numbers told in
       subst (IsRefused old q.batch.records q.options (Incomplete s d w)) new_is
-      (refused_held_up start opening k (own_commits k mine) (own_sights k mine) (own_answers mine) (commit k q p) (sight k q p) seen now sees known after more free within in_order.0 numbers h.2.by h.2.now h.2.bytes told h.0 h.1 (later_known numbers h.2))
+      (refused_held_up start opening k (own_commits k mine) (own_sights k mine) (own_answers mine) (commit k q p) (sight k q p) seen now sees known after more free within said_by_then in_order.0 numbers h.2.by h.2.now h.2.bytes told h.0 h.1 (later_known numbers h.2))
   refused_by Empty e is_why err late = absurd late
   refused_by (TooLarge size) e is_why err late = absurd late
   refused_by SyncWithoutLog e is_why err late = absurd late

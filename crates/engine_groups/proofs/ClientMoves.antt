@@ -7,11 +7,11 @@ use Rattle.model_base.specs.Controller.{ControllerCall, Action, Look, opening, u
 use Rattle.crossbeam_utils.specs.Seq.{cell_view}
 use Rattle.model_base.specs.Groups.{is_delay}
 use Rattle.model_base.specs.Map.{Pairs}
-use Rattle.model_base.specs.Tokens.{tokens_of, given_back}
-use Rattle.model_base.proofs.Prefixes.{prefix_self, prefix_trans}
+use Rattle.model_base.specs.Tokens.{tokens_of}
+use Rattle.model_base.proofs.Prefixes.{prefix_self}
 use Rattle.table_rule.specs.Histories.{Begins, In, last_of, map_after}
 use Rattle.table_calls.specs.Account.{Learns}
-use Rattle.model_accounts.specs.Accounts.{Keeps, GivesBack, Reads as ReadsAtEnd}
+use Rattle.model_accounts.specs.Accounts.{Keeps, Reads as ReadsAtEnd}
 use Rattle.model_accounts.proofs.Seeing.{seen_of_all}
 use Rattle.engine_controller.specs.declared.pass.Pass.{Pass}
 use Rattle.engine_controller.specs.Delays.{delays_of, place_if}
@@ -32,7 +32,7 @@ use Rattle.engine_groups.proofs.Answered.{begins_self, last_later}
 use Rattle.engine_groups.proofs.AtEnds.{ends_on}
 
 -- a client that gives back its tokens has seen no less after that, and asked for no delay
-back_begins : (b : Bool) (client : ℕ) (seen : List ControllerCall) (action : Action) (after : List ControllerCall) → GivesBackIn b client seen action after → IsPrefix seen after
+pub back_begins : (b : Bool) (client : ℕ) (seen : List ControllerCall) (action : Action) (after : List ControllerCall) → GivesBackIn b client seen action after → IsPrefix seen after
 back_begins true client seen action after h = ends_begins client seen action None after h
 back_begins false client seen action after h = subst (λ (l : List ControllerCall). IsPrefix seen l) (sym h) (prefix_self seen)
 
@@ -193,29 +193,6 @@ module _ {D T C G S U P : Type 0} {ghosts : Ghosts D} (meaning : Meaning T S U P
 
     pub end_moved : IsPassOf e.controller pass → pass_client pass ≡ pass_client c.pass → IsClientOf meaning e (record c { pass = pass })
     end_moved own same = pass_moved pass own same (back_delays (pass_client c.pass) fits.idle.seated.pass_number first second)
-
-    pub end_gives : (seat : S) → Begins (meaning.account c.seat).seen (meaning.account seat).seen → last_of c.start (meaning.account c.seat).seen ≤ shown → pass_client pass ≡ pass_client c.pass → asked_by pass ≡ asked_by c.pass ++ given_back (asked_by c.pass) shown
-        → GivesBack (account_in meaning c) (account_in meaning (record c { seat = seat; pass = pass }))
-    end_gives seat more had same tokens = record {
-      number = refl;
-      mine = refl;
-      ends = refl;
-      asked = ap (λ (k : ℕ). tokens_of k (seen_by pass)) (sym (same ∙ fits.idle.seated.pass_number)) ∙ (tokens ∙ ap (λ (l : List Action). l ++ given_back l shown) same_tokens);
-      shown = shown;
-      had = had;
-      attempts = refl;
-      read_faults = refl;
-      seen = record {
-        start = refl;
-        opening = refl;
-        published = more;
-        controller_calls = prefix_trans (seen_by c.pass) middle (seen_by pass) (back_begins a (pass_client c.pass) (seen_by c.pass) (unstop shown) middle first) (back_begins b (pass_client c.pass) middle (unslow shown) (seen_by pass) second);
-        log_reads = prefix_self _;
-        logged = omega arith;
-        batches = prefix_self _;
-      };
-      tokens = refl;
-    }
 
   -- its pass has seen more of others' calls
   module _ (pass : Pass) (goes : GoesOn (pass_client c.pass) (seen_by c.pass) (seen_by pass)) where

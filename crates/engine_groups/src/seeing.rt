@@ -65,8 +65,8 @@ impl<
     Time: Clock + Drop,
     Watch: Gate + Drop,
 > GroupEngine<Log, Versions, Time, Watch> {
-    /// Up to which sequence, at most, clients had been shown what is published as they took tokens or gave them back, by
-    /// the calls that an answer's note shows; 0 where it has none.
+    /// Up to which sequence, at most, clients had been shown what is published as they took tokens or gave them back,
+    /// by the calls that an answer's note shows; 0 where it has none.
     pub(crate) fn shown_by(&self, note: &Option<Note>) -> u64
         ensures { IfSome note.now (λ n. result ≡ shown_by_tokens (seen_by_note n)) }
     {

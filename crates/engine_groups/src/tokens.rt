@@ -1,9 +1,10 @@
-//! A client's calls of the write controller. Each that takes a token or gives one back says up to which sequence the
-//! client has seen what is published: it reads that first. After it the client sees all that was said before.
+//! A client's calls of the write controller. Before each that takes a token or gives one back, the client reads up to
+//! which sequence it has seen what is published, and says that. After each, but not at its end, it sees all that was
+//! said before.
 
 ghost use Rattle.std.specs.Prelude.{◌≡◌, ◌≤◌, ℕ, None, true, false, OnOk, OnErr};
 ghost use Rattle.model_base.specs.Controller as controller;
-ghost use Rattle.model_base.specs.Tokens.{holds_stop, holds_slow, said_in};
+ghost use Rattle.model_base.specs.Tokens.{holds_stop, holds_slow};
 ghost use Rattle.engine_controller.specs.Passes.{client_of, seen_by, EndsWith};
 ghost use Rattle.model_accounts.specs.Accounts.{Keeps, Asks, GivesBack};
 ghost use Rattle.model_accounts.specs.Sights.{last_seen};
@@ -33,8 +34,10 @@ impl<
         requires { IsClientOf Versions.Table self.now client.old }
         ensures belongs { IsClientOf Versions.Table self.now client.new }
         ensures keeps { Keeps (account_in Versions.Table client.old) (account_in Versions.Table client.new) }
-        ensures said { (last_seen (account_in Versions.Table client.old).seen ≤ result)
-            × (result ≤ said_in (seen_by client.new.pass)) }
+        ensures had { last_seen (account_in Versions.Table client.old).seen ≤ result }
+        ensures has { result ≤ last_seen (account_in Versions.Table client.new).seen }
+        ensures said { EndsWith (client_of client.old.pass) (seen_by client.old.pass) (controller.say result) None
+            (seen_by client.new.pass) }
     {
         let shown = self.table.last(&mut client.seat);
         self.controller.say(rt, &mut client.pass, shown);
@@ -47,8 +50,9 @@ impl<
         requires { IsClientOf Versions.Table self.now client.old }
         ensures belongs { IsClientOf Versions.Table self.now client.new }
         ensures keeps { Keeps (account_in Versions.Table client.old) (account_in Versions.Table client.new) }
-        ensures heard { (most : ℕ) × EndsWith (client_of client.old.pass) (seen_by client.old.pass) (controller.hear most)
-            None (seen_by client.new.pass) × (most ≤ last_seen (account_in Versions.Table client.new).seen) }
+        ensures heard { (most : ℕ) × EndsWith (client_of client.old.pass) (seen_by client.old.pass)
+            (controller.hear most) None (seen_by client.new.pass)
+            × (most ≤ last_seen (account_in Versions.Table client.new).seen) }
     {
         let most = self.controller.gather(&mut client.pass);
         self.table.await_seen(rt, &mut client.seat, most);
@@ -137,13 +141,13 @@ impl<
         Ok(())
     }
 
-    /// Gives back the tokens that the client holds.
+    /// Gives back the tokens that the client holds, once it has said what it has seen.
     pub fn end<R: Wait + rt::Clock>(&self, rt: &R, client: &mut EngineClient<Log, Versions, Time>)
         requires { IsClientOf Versions.Table self.now client.old }
         ensures belongs { IsClientOf Versions.Table self.now client.new }
         ensures back { GivesBack (account_in Versions.Table client.old) (account_in Versions.Table client.new) }
     {
-        let shown = self.table.last(&mut client.seat);
+        let shown = self.say(rt, client);
         self.controller.end(rt, &mut client.pass, shown);
     }
 }

@@ -188,9 +188,9 @@ NotesAll controller seen p = (note : Noted) × (p.note ≡ Some note) × IsNoteO
     × IsPrefix seen (seen_by_note note)
 
 -- The reply to a write has a note of the controller, which shows all that the leader had seen when it was decided
--- whether the group goes on, and so the group's delay. That delay comes after all that the request's own note shows, and
--- after a call that says no less than what the client had been shown. A client that is refused because writes are held
--- up may not wait, and its answer has the numbers of that delay, which say that writes are held up.
+-- whether the group goes on, and so the group's delay. That delay comes after all that the request's own note shows,
+-- and after a call that says no less than what the client had been shown. A client that is refused because writes are
+-- held up may not wait, and its answer has the numbers of that delay, which say that writes are held up.
 pub record ShowsDelay {Time : Type 0} (controller : Controller Time) (h : Handling Request Answer) : Type 0 where
   pub noted : h.asked.since ≡ None → NotesAll controller (went_for h.reply) h.reply
   pub begins : h.asked.since ≡ None → IsPrefix (seen_for h.reply) (went_for h.reply)

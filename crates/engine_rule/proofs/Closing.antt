@@ -14,7 +14,7 @@ use Rattle.model_base.specs.Controller.{ControllerCall, IsLegal}
 use Rattle.model_base.specs.Tokens.{is_token, tokens_of, AreHeard}
 use Rattle.model_base.specs.Recovery.{Logged}
 use Rattle.model_base.specs.Trace.{Trace, Settings}
-use Rattle.model_base.specs.Groups.{Member, Group, AreOfOthers, AreStatuses, IsStatus, items_of}
+use Rattle.model_base.specs.Groups.{Member, AreOfOthers, AreStatuses, IsStatus, items_of}
 use Rattle.model_base.specs.Outcomes.{entries_of_client, AreOwnFaults}
 use Rattle.model_base.specs.Grouping.{group_len}
 use Rattle.model_base.specs.LogContents.{GroupCall, AreGroupsOf}

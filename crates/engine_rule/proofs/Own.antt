@@ -202,7 +202,7 @@ batches_more knew (t ∷ sights) s =
     ap (λ l. batch_with knew t.made t.batch ++ l) (batches_more t.made sights s) ∙ sym (append_assoc (batch_with knew t.made t.batch) (batches_of t.made sights) (batch_with (fold (λ n (u : LogSight). u.made) t.made sights) s.made s.batch))
 
 module _ (start : ℕ) (opening : Pairs) (k : ℕ) (old : List Commit) (sights : List LogSight) (answers : List ReadAnswer) (c : Commit) (s : LogSight) (before after : List (List MemberVersions)) (sees : Begins before after) (known now : List ControllerCall) (more : SeesMore k known now)
-    (free : holds_stop (tokens_of k known) ≡ false) (within : IsWithinCall (length known) (length now) (place_of c) (decided_of c)) (logged : logged_by sights ≤ s.made) where
+    (free : holds_stop (tokens_of k known) ≡ false) (within : IsWithinCall (length known) (length now) (place_of c) (decided_of c)) (said : last_of_groups start before ≤ said_in (take (place_of c + 1) now)) (logged : logged_by sights ≤ s.made) where
   abbrev was : Account
   was = account_of start opening k old sights answers before known
 
@@ -227,7 +227,7 @@ module _ (start : ℕ) (opening : Pairs) (k : ℕ) (old : List Commit) (sights :
     fate = fate_at (place_of c) (decided_of c) slowed;
     may = (impatient, (by, moment, bytes, later, slice_get_within now (place_of c) (record { client = by; action = delay moment bytes; told = Some numbers }) later.there, hold, refl));
     kept_out = not_kept_out (tokens_of k known) _ free;
-    within_call = within;
+    in_group = record { asked = within; said = said };
     tokens = refl;
     number = refl;
     mine = mine_same k old c (held_up numbers) held_is refl;
@@ -248,7 +248,7 @@ module _ (start : ℕ) (opening : Pairs) (k : ℕ) (old : List Commit) (sights :
     fate = fate_at (place_of c) (decided_of c) (faulted n);
     may = refl;
     kept_out = not_kept_out (tokens_of k known) _ free;
-    within_call = within;
+    in_group = record { asked = within; said = said };
     tokens = refl;
     number = refl;
     mine = mine_same k old c (failed n) failed_is refl;
@@ -261,8 +261,8 @@ module _ (start : ℕ) (opening : Pairs) (k : ℕ) (old : List Commit) (sights :
 
   module _ (cs : List Commit) (right : AreAnswered start None cs) (is : commits_of k cs ≡ old ++ c ∷ []) where
     pub wrote : (settings : Settings) (first end : ℕ) → c.answer ≡ accepted first end → early_refusal settings.families settings.batch_bytes (holds_stop (tokens_of k known)) c.records c.options ≡ None → last_of_groups start before < first → end ≤ last_of_groups start after
-        → ShowsBatch c first s → shown_by_tokens (take (decided_of c) now) < first → last_of_groups start before ≤ said_in (take (place_of c + 1) now) → Wrote settings was c.records c.options first end becomes
-    wrote settings first end given_is passed above reached shows unseen said =
+        → ShowsBatch c first s → shown_by_tokens (take (decided_of c) now) < first → Wrote settings was c.records c.options first end becomes
+    wrote settings first end given_is passed above reached shows unseen =
         let v = subst (IsAnswer (last_after_all start (at start k cs old c right is).front) (fault_after_all None (at start k cs old c right is).front) (count_of c.records)) given_is (answer start k cs old c right is).1 in
         record {
           number = refl;
@@ -303,7 +303,7 @@ module _ (start : ℕ) (opening : Pairs) (k : ℕ) (old : List Commit) (sights :
             subst (λ m. max_sequence < m + count_of c.records) (sym v.1) v.2,
           );
           kept_out = not_kept_out (tokens_of k known) _ free;
-          within_call = within;
+          in_group = record { asked = within; said = said };
           tokens = refl;
           number = refl;
           mine = mine_same k old c (no_room l) full_is refl;
@@ -321,7 +321,7 @@ pub refused_looked : (start : ℕ) (opening : Pairs) (k : ℕ) (own : List Commi
 refused_looked start opening k own sights answers records how before after known now numbers sees stopping ends impatient hold =
     let last = ends_last k known look (Some numbers) now ends in record {
       fate = None;
-      within_call = tt;
+      in_group = tt;
       tokens = refl;
       may = (
         impatient,
@@ -349,7 +349,7 @@ pub refused_stalled : (start : ℕ) (opening : Pairs) (k : ℕ) (own : List Comm
     → IsRefused (account_of start opening k own sights answers before known) records how (no.Incomplete numbers.stops numbers.delays numbers.wait) (account_of start opening k own sights answers after now)
 refused_stalled start opening k own sights answers records how before after known now numbers by place sees more free impatient later met = record {
   fate = None;
-  within_call = tt;
+  in_group = tt;
   tokens = refl;
   may = (
     impatient,

@@ -1,5 +1,5 @@
 -- What commits make: the entries of the one history, their versions, and each client's account.
-use Rattle.std.specs.Prelude.{◌≡◌, ℕ, ◌+◌, ◌≤◌, false, List, [], ◌∷◌, ◌++◌, length, flat_map, map, Option, Some, None}
+use Rattle.std.specs.Prelude.{◌≡◌, ℕ, ◌+◌, ◌≤◌, false, List, [], ◌∷◌, ◌++◌, length, take, flat_map, map, Option, Some, None}
 use Rattle.std.specs.List.{AllByRecursion}
 use mathlib.Core.List.{IsPrefix}
 use Rattle.model_base.specs.declared.write.Refusal.{Refusal}
@@ -9,7 +9,7 @@ use Rattle.model_base.specs.Map.{Pairs}
 use Rattle.model_base.specs.History.{Entry}
 use Rattle.model_base.specs.Attempts.{Attempt, WriteStatus, succeeded, slowed, faulted, full}
 use Rattle.model_base.specs.Controller.{ControllerCall}
-use Rattle.model_base.specs.Tokens.{tokens_of, holds_stop}
+use Rattle.model_base.specs.Tokens.{tokens_of, holds_stop, said_in}
 use Rattle.model_base.specs.Outcomes.{entries_of_client}
 use Rattle.model_base.specs.Progress.{next_entry}
 use Rattle.model_base.specs.Recovery.{Logged}
@@ -18,7 +18,7 @@ use Rattle.model_base.specs.LogContents.{GroupCall}
 use Rattle.model_base.specs.Replies.{IsWithinCall}
 use Rattle.table_rule.specs.declared.content.Version.{Version}
 use Rattle.table_rule.specs.declared.content.MemberVersions.{MemberVersions}
-use Rattle.table_rule.specs.Histories.{Begins}
+use Rattle.table_rule.specs.Histories.{Begins, last_of}
 use Rattle.table_rule.specs.Batches.{new_versions, number_from}
 use Rattle.model_accounts.specs.Accounts.{Account, IsRefused}
 use Rattle.engine_controller.specs.Passes.{GoesOn}
@@ -193,10 +193,12 @@ IsFree k = holds_stop (tokens_of k.client k.known) ≡ false
 abbrev pub IsNewest : ClientCall → List Commit → Commit → Type 0
 IsNewest k commits c = AreAnswered k.start None commits × (commits_of k.client commits ≡ k.own ++ c ∷ [])
 
--- The delay of the commit's group is within the call, and so is all by which its leader decided. The answer shows this
--- of the log, no less than those before it.
+-- The delay of the commit's group is within the call, and so is all by which its leader decided. By the delay, calls of
+-- the controller had said all that the client had seen published before. The answer shows this of the log, no less than
+-- those before it.
 pub record IsWithin (k : ClientCall) (c : Commit) (s : LogSight) : Type 0 where
   pub delay : IsWithinCall (length k.known) (length k.now) (place_of c) (decided_of c)
+  pub said : last_of k.start k.before ≤ said_in (take (place_of c + 1) k.now)
   pub logged : logged_by k.sights ≤ s.made
 
 -- the commit was refused for this

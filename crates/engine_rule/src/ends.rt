@@ -10,7 +10,7 @@ ghost use Rattle.model_base.specs.Controller.{ControllerCall, Look, HoldUp, IsLe
 ghost use Rattle.model_base.specs.LogContents.{GroupCall, IsLoggedBy};
 ghost use Rattle.model_base.specs.Progress.{early_refusal};
 ghost use Rattle.model_base.specs.Replies.{IsLater, MetStall};
-ghost use Rattle.model_base.specs.Tokens.{tokens_of, holds_stop, shown_by_tokens, said_in, AreHeard};
+ghost use Rattle.model_base.specs.Tokens.{tokens_of, holds_stop, shown_by_tokens, AreHeard};
 ghost use Rattle.model_base.specs.Counts.{Rose};
 ghost use Rattle.model_base.specs.Recovery.{Logged};
 ghost use Rattle.model_base.specs.Since.{LogRead};
@@ -40,8 +40,7 @@ pub fn numbers_of_commits()
 /// got, or what more the client has seen since of what is published and of the controller. A commit that may not wait
 /// may also be refused in no group, by a look: because its client holds a stop token, or because it met a stall.
 pub fn accounts_of_the_commits()
-    // nobody who took a token or gave one back before the leader decided had been shown the batch, and by the delay calls
-    // of the controller had said all that the client had seen published
+    // nobody who took a token or gave one back before the leader decided had been shown the batch
     ensures wrote { (settings : Settings) (k : ClientCall) (commits : List Commit) (c : Commit) (first group_last : ℕ)
         → IsNewest k commits c → HasSeenMore k → IsFree k → c.answer ≡ accepted first group_last
         → early_refusal settings.families settings.batch_bytes (holds_stop (tokens_of k.client k.known)) c.records
@@ -49,7 +48,6 @@ pub fn accounts_of_the_commits()
         → last_of k.start k.before < first → group_last ≤ last_of k.start k.after
         → (s : LogSight) → IsWithin k c s → ShowsBatch c first s
         → shown_by_tokens (take (decided_of c) k.now) < first
-        → last_of k.start k.before ≤ said_in (take (place_of c + 1) k.now)
         → Wrote settings (account_before k) c.records c.options first group_last (account_with k c s) }
     // where writes are held up, or the log failed, nothing needs to be known of the other answers
     ensures held_up { (k : ClientCall) (c : Commit) (numbers : Look) (by moment bytes : ℕ)

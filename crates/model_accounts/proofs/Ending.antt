@@ -26,6 +26,7 @@ transcript_closes settings kept trace parts fault client commands calls a is_his
   accepted = ap (λ n. entries_of_client n trace.entries) (sym run.number) ∙ (part.accepted ∙ run.mine);
   shown = run.shown;
   had = run.had;
+  said = run.said trace is_history part.seen;
   tokens = ap (λ n. tokens_of n trace.controller_calls) (sym run.number) ∙ (part.tokens ∙ run.asked);
   commits = run.attempts;
   statuses = part.statuses;

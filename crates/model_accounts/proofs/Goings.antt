@@ -24,7 +24,7 @@ use Rattle.model_base.specs.Replies.{IsAttempted, IsLogRead, ReadsAt, Gets, Gets
 use Rattle.model_base.specs.Calls.{Command, add, clear, commit, get, many, scan, updates, stop, unstop, slow, unslow, Reply, quiet, accepted, refused, found, found_each, rows, updates_found, read_failed, done, held, not_held}
 use Rattle.model_base.specs.LogContents.{IsLoggedBy}
 use Rattle.model_base.proofs.Prefixes.{prefix_length, prefix_take}
-use Rattle.model_base.proofs.Runs.{later_in, refuse_in, said_same, unseen_in}
+use Rattle.model_base.proofs.Runs.{later_in, refuse_in, said_same, unseen_in, went_in}
 use Rattle.model_accounts.specs.Sights.{WasLogged, last_seen, Sees, Saw, InEachTrace}
 use Rattle.model_accounts.specs.Accounts.{Account, progress_at, KnowsOwnTokens, Keeps, IsLogged, Wrote, IsRefused, Refuses, Reads, ReadsLog, FailsToRead, Asks}
 use Rattle.model_accounts.specs.ClientRuns.{Goes, Lacks}
@@ -138,7 +138,7 @@ module _ (settings : Settings) (v : Account) (pending : List Record) where
               refuse_in w.seen.controller_calls trace.controller_calls saw.controller_calls v.number (progress_at v pending (last_seen v.seen)) shown (length w.seen.controller_calls) low how why r.fate r.may,
               stands_by w pending shown _ _ _ r.mine r.asked r.attempts,
               r.kept_out,
-              r.within_call,
+              went_in w.seen.controller_calls trace.controller_calls saw.controller_calls (length v.seen.controller_calls) (length w.seen.controller_calls) shown (last_seen v.seen) low (omega arith) r.fate r.in_group,
             ),
           ))
       by_check (Some early) e s =

@@ -73,7 +73,7 @@ wrote = record {
 }
 
 gives_back : GivesBack after after
-gives_back = record { number = refl; mine = refl; ends = refl; shown = 2; had = lit≤ tt; asked = refl; attempts = refl; read_faults = refl; seen = sees_self after.seen; tokens = refl }
+gives_back = record { number = refl; mine = refl; ends = refl; shown = 2; had = lit≤ tt; has = lit≤ tt; said = tt; asked = refl; attempts = refl; read_faults = refl; seen = sees_self after.seen; tokens = refl }
 
 has_run_once : HasRun settings 1 commands calls after
 has_run_once =

@@ -1,5 +1,6 @@
 -- What the calls of a write path say about one client.
-use Rattle.std.specs.Prelude.{◌≡◌, ◌⊎◌, ℕ, ◌+◌, ◌<◌, ◌≤◌, Bool, false, List, [], ◌∷◌, ◌++◌, length, take, Option, Some, None, IfSome, MatchOption}
+use Rattle.std.specs.Prelude.{◌≡◌, ◌⊎◌, ℕ, ◌+◌, ◌<◌, ◌≤◌, Bool, false, List, [], ◌∷◌, ◌++◌, length, take, Option, None, IfSome, MatchOption}
+use Rattle.std.specs.List.{AllByRecursion}
 use Rattle.model_base.specs.declared.write.WriteOptions.{WriteOptions}
 use Rattle.model_base.specs.declared.write.Refusal.{Refusal}
 use Rattle.model_base.specs.declared.write.Refusal.TheVariants.{NoMemory}
@@ -12,7 +13,7 @@ use Rattle.model_base.specs.Counts.{Rose}
 use Rattle.model_base.specs.Trace.{Settings}
 use Rattle.model_base.specs.Attempts.{Attempt, succeeded, Fate, fate_at, with_attempt, knows_log_failed}
 use Rattle.model_base.specs.Progress.{Progress, next_entry, early_refusal}
-use Rattle.model_base.specs.Replies.{IsLater, IsWithinCall, AreFullBelow, MayRefuse, IsKeptOut}
+use Rattle.model_base.specs.Replies.{IsLater, IsWithinCall, WentToGroup, AreFullBelow, MayRefuse, IsKeptOut, IsGivenBack}
 use Rattle.model_accounts.specs.Sights.{Sight, unseen, last_seen, map_seen, Sees}
 
 -- One client: its accepted batches, for each of them the last sequence of its group, its calls of the controller that
@@ -81,10 +82,10 @@ IsLogged v w records sync first = w.seen.batches ≡ v.seen.batches
 -- A batch was accepted: one entry more. It had passed the early checks, and the client held no stop token and didn't
 -- know of a fault of the log. Its run is above all that the client had seen published, and above each sequence after
 -- which there was no room for an earlier batch of this client. The delay of its group is within the call, and so is all
--- by which its leader decided that the group goes on. Nobody who took a token or gave one back before the leader decided
--- had been shown the batch. By the delay, calls of the controller had said all that the client had seen published
--- before. A batch that goes into the log was written by a call of the log writer that has returned. The client has now
--- seen the batch's group published, up to the group's end.
+-- by which its leader decided that the group goes on. Nobody who took a token or gave one back before the leader
+-- decided had been shown the batch. By the delay, calls of the controller had said all that the client had seen
+-- published before. A batch that goes into the log was written by a call of the log writer that has returned. The
+-- client has now seen the batch's group published, up to the group's end.
 pub record Wrote (settings : Settings) (v : Account) (records : List Record) (how : WriteOptions) (first group_last : ℕ)
     (w : Account) : Type 0 where
   pub number : w.number ≡ v.number
@@ -112,7 +113,8 @@ pub record Wrote (settings : Settings) (v : Account) (records : List Record) (ho
 
 -- A commit that passed the early checks was refused, and its batch has no run. Where the client held a stop token it
 -- was in no group. Any other commit was in no group only if it met a stall. If it was in a group, the delay of that
--- group is within the call, and so is all by which its leader decided.
+-- group is within the call, and so is all by which its leader decided; and by the delay, calls of the controller had
+-- said all that the client had seen published before.
 pub record IsRefused (v : Account) (records : List Record) (how : WriteOptions) (why : Refusal)
     (w : Account) : Type 0 where
   pub fate : Option Fate
@@ -120,8 +122,8 @@ pub record IsRefused (v : Account) (records : List Record) (how : WriteOptions) 
       (length w.seen.controller_calls)
       how why fate
   pub kept_out : IsKeptOut v.asked fate
-  pub within_call : IfSome fate (λ fate. IsWithinCall (length v.seen.controller_calls)
-      (length w.seen.controller_calls) fate.place fate.decided)
+  pub in_group : IfSome fate (WentToGroup w.seen.controller_calls (length v.seen.controller_calls)
+      (length w.seen.controller_calls) (last_seen v.seen))
   pub number : w.number ≡ v.number
   pub mine : w.mine ≡ v.mine
   pub ends : w.ends ≡ v.ends
@@ -172,8 +174,8 @@ pub record FailsToRead (settings : Settings) (v : Account) (count : ℕ) (w : Ac
   pub rose : Rose settings.opened count
 
 -- The client made this call of the controller, after all that it had seen. The call's number is no less than the last
--- sequence that it had seen published, and calls up to this one say that sequence. Then the client heard a sequence, up
--- to which it has now seen what is published.
+-- sequence that it had seen published (`had`), and no more than the last one that it has seen now (`has`). Calls up to
+-- this one say what it had seen. Then the client heard a sequence, up to which it has now seen what is published.
 pub record Asks (v : Account) (action : Action) (w : Account) : Type 0 where
   pub number : w.number ≡ v.number
   pub mine : w.mine ≡ v.mine
@@ -187,6 +189,7 @@ pub record Asks (v : Account) (action : Action) (w : Account) : Type 0 where
   pub is_later : IsLater w.seen.controller_calls (length v.seen.controller_calls) place
       (record { client = v.number; action = action; told = None })
   pub had : last_seen v.seen ≤ shown_by_token action
+  pub has : shown_by_token action ≤ last_seen w.seen
   pub said : last_seen v.seen ≤ said_in (take (place + 1) w.seen.controller_calls)
   pub heard_at : ℕ
   pub most : ℕ
@@ -194,14 +197,18 @@ pub record Asks (v : Account) (action : Action) (w : Account) : Type 0 where
       (record { client = v.number; action = hear most; told = None })
   pub reached : most ≤ last_seen w.seen
 
--- The client gave back the tokens that it held. These calls' number is no less than the last sequence that it had seen
--- published.
+-- The client gave back the tokens that it held. The number of these calls is no less than the last sequence that it had
+-- seen published, and no more than the last one that it has seen now. Calls up to each of them say what it had seen.
 pub record GivesBack (v w : Account) : Type 0 where
   pub number : w.number ≡ v.number
   pub mine : w.mine ≡ v.mine
   pub ends : w.ends ≡ v.ends
   pub shown : ℕ
   pub had : last_seen v.seen ≤ shown
+  pub has : shown ≤ last_seen w.seen
+  pub said : AllByRecursion
+      (IsGivenBack w.seen.controller_calls v.number (length v.seen.controller_calls) (last_seen v.seen))
+      (given_back v.asked shown)
   pub asked : w.asked ≡ v.asked ++ given_back v.asked shown
   pub attempts : w.attempts ≡ v.attempts
   pub read_faults : w.read_faults ≡ v.read_faults

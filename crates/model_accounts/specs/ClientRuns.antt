@@ -1,10 +1,11 @@
 -- How a client goes on, call by call, with any write path.
 use Rattle.std.specs.Prelude.{◌≡◌, ℕ, ◌+◌, ◌≤◌, List, [], ◌∷◌, ◌++◌, length, Some, slice_get}
+use Rattle.std.specs.List.{AllByRecursion}
 use Rattle.model_base.specs.Batch.{Record}
 use Rattle.model_base.specs.Tokens.{given_back}
 use Rattle.model_base.specs.Trace.{Settings}
 use Rattle.model_base.specs.Progress.{Progress, fresh}
-use Rattle.model_base.specs.Replies.{MayFindNoMemory}
+use Rattle.model_base.specs.Replies.{IsGivenBack, MayFindNoMemory}
 use Rattle.model_base.specs.Runs.{Step, Run, IsTranscript}
 use Rattle.model_base.specs.Calls.{Command, Reply, Call}
 use Rattle.model_base.specs.Outcomes.{read_fault_of, read_faults_of}
@@ -43,7 +44,7 @@ pub record Went (settings : Settings) (calls : List Call) (a : Account) (pending
 
 -- All calls of a client, as far as it alone can tell: they are a transcript in each trace of which it may have seen
 -- what it has seen, and at its end the client has done what its account says. As it gave its tokens back, it had been
--- shown no more than these calls say.
+-- shown no more than these calls' number, and no more than calls up to them say.
 pub record HasRun (settings : Settings) (client : ℕ) (commands : List Command) (calls : List Call)
     (a : Account) : Type 0 where
   pub end : Progress
@@ -52,6 +53,8 @@ pub record HasRun (settings : Settings) (client : ℕ) (commands : List Command)
   pub mine : a.mine ≡ end.mine
   pub shown : ℕ
   pub had : end.seen_up_to ≤ shown
+  pub said : InEachTrace a.seen (λ trace. AllByRecursion
+      (IsGivenBack trace.controller_calls client end.known end.seen_up_to) (given_back end.asked shown))
   pub asked : a.asked ≡ end.asked ++ given_back end.asked shown
   pub attempts : a.attempts ≡ end.attempts
   pub read_faults : a.read_faults ≡ read_faults_of calls

@@ -45,8 +45,8 @@ abbrev pub RoseInRun : Settings → ℕ → Option ℕ → Type 0
 RoseInRun settings ended fault = IfSome fault (λ count. Rose settings.opened count × (count ≤ ended))
 
 -- There was one trace, and there were groups of commits, each of which made a part of the trace's entries. The accounts
--- are what each client did and saw of these. Each fault of the log or of a read of it is a count of its own. Where there
--- was none, the disk has counted none.
+-- are what each client did and saw of these. Each fault of the log or of a read of it is a count of its own. Where
+-- there was none, the disk has counted none.
 pub record IsClosing (settings : Settings) (ended : ℕ) (trace : Trace) (groups : List Group) (accounts : List Account)
     (last : ℕ) (fault : Option ℕ) : Type 0 where
   pub is_trace : IsTrace settings trace

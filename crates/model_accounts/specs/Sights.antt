@@ -24,9 +24,9 @@ pub record LoggedBatch : Type 0 where
   pub sync : Bool
 
 -- The published groups, as its reads showed them, the controller's calls, as its pass saw them, what its reads of the
--- log gave, how many calls of the log writer it knows to have returned, from the first one on, and its batches that went
--- into the log. A published group has versions, which tell neither whose they are nor how they were committed. So this isn't
--- a trace.
+-- log gave, how many calls of the log writer it knows to have returned, from the first one on, and its batches that
+-- went into the log. A published group has versions, which tell neither whose they are nor how they were committed. So
+-- this isn't a trace.
 pub record Sight : Type 0 where
   -- the sequence before the first batch, and the map there
   pub start : ℕ
@@ -56,8 +56,8 @@ last_seen sight = last_of sight.start sight.published
 abbrev pub map_seen : Sight → Pairs
 map_seen sight = after_records sight.opening (map record_of (versions_of sight.published))
 
--- One of these calls of the log writer wrote the batch. The client didn't know of that call before its commit, and knows
--- of it since.
+-- One of these calls of the log writer wrote the batch. The client didn't know of that call before its commit, and
+-- knows of it since.
 abbrev pub WasLogged : List GroupCall → LoggedBatch → Type 0
 WasLogged calls b = IsLoggedBy calls b.knew b.knows b.first b.records b.sync
 

@@ -70,8 +70,8 @@ pub fn refused_reads_are_steps()
         → Goes settings v pending (scan named lo hi) (refused (NoFamily family)) w pending }
 {}
 
-/// A read of the log with its records, at the last sequence that the client has then seen published; or it failed, or the
-/// client holds a stop token, or there was no memory.
+/// A read of the log with its records, at the last sequence that the client has then seen published; or it failed, or
+/// the client holds a stop token, or there was no memory.
 pub fn reads_of_the_log_are_steps()
     ensures found { (settings : Settings) (v : Account) (pending : List Record) (s at : ℕ) (records : List (List ℕ))
         (w : Account) → holds_stop v.asked ≡ false → ReadsLog v s at records w

@@ -32,8 +32,8 @@ ghost use Rattle.model_accounts.specs.Answered.{IsAmong};
 /// on it, only whether its reads of the log are right.
 pub fn closed_runs_are_legal()
     ensures legal { (settings : Settings) (kept : Option (List Logged)) (ended : ℕ) (script : Script)
-        (calls : List (List Call)) (accounts : List Account) (trace : Trace) (groups : List Group) (last : ℕ) (log_lens : List ℕ)
-        (fault : Option ℕ)
+        (calls : List (List Call)) (accounts : List Account) (trace : Trace) (groups : List Group) (last : ℕ)
+        (log_lens : List ℕ) (fault : Option ℕ)
         → settings.clients ≡ length script → HaveRun settings script calls accounts
         → IsClosing (with_kept kept settings) ended trace groups accounts last fault
         → (is : IsLegalIn (with_kept kept settings) ended script trace (all_attempts accounts)

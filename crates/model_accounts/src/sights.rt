@@ -22,8 +22,8 @@ pub fn earlier_sights()
 {}
 
 /// If the groups that a client has seen published are the first ones of all that were published, it may have seen them
-/// of each trace whose entries made all those groups, whose controller's calls begin with the ones that it saw, in which
-/// its reads of the log were right, and whose calls of the log writer wrote its batches.
+/// of each trace whose entries made all those groups, whose controller's calls begin with the ones that it saw, in
+/// which its reads of the log were right, and whose calls of the log writer wrote its batches.
 pub fn sights_of_the_table()
     ensures saw { (trace : Trace) (history : List (List MemberVersions))
         → Images versions_of_entry trace.entries history

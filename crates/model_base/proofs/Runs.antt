@@ -15,7 +15,7 @@ use Rattle.model_base.specs.Attempts.{Fate}
 use Rattle.model_base.specs.LogContents.{GroupCall, IsLoggedBy}
 use Rattle.model_base.specs.Tokens.{tokens_of, holds_stop, shown_by_tokens, said_in}
 use Rattle.model_base.specs.Progress.{Progress, fresh, first_missing, early_refusal}
-use Rattle.model_base.specs.Replies.{IsLater, WasHeldUp, LooksAway, IsTold, MayRefuse, IsKeptOut, IsAccepted, IsAttempted, ReadsAt, IsDone, Gets, GetsMany, Scans, IfThere, IsLogRead, ReadsLog, Updates, Stops, Unstops, Slows, Unslows, Replies, Stays}
+use Rattle.model_base.specs.Replies.{IsLater, WasHeldUp, LooksAway, IsTold, MayRefuse, IsKeptOut, WentToGroup, IsAccepted, IsAttempted, ReadsAt, IsDone, Gets, GetsMany, Scans, IfThere, IsLogRead, ReadsLog, Updates, Stops, Unstops, Slows, Unslows, Replies, Stays}
 use Rattle.model_base.specs.Runs.{Step, Run, IsTranscript, whole, cut_off}
 use Rattle.model_base.specs.Calls.{Command, add, clear, commit, get, many, scan, updates, stop, unstop, slow, unslow, Reply, accepted, refused, found, found_each, rows, updates_found, read_failed, done, held, not_held, Call}
 use Rattle.model_base.proofs.Prefixes.{prefix_at, prefix_length, prefix_take, prefix_trans}
@@ -73,6 +73,15 @@ unseen_in xs ys p decided first within s = subst (λ (l : List ControllerCall). 
 pub said_same : (xs ys : List ControllerCall) → IsPrefix xs ys → (place shown : ℕ) → place < length xs → shown ≤ said_in (take (place + 1) xs) → shown ≤ said_in (take (place + 1) ys)
 said_same xs ys p place shown within s = subst (λ (l : List ControllerCall). shown ≤ said_in l) (sym (prefix_take xs ys p (place + 1) (omega (arith, within)))) s
 
+-- how a commit went in its group is right in the longer history too, even for a client that was shown less
+pub went_in : (xs ys : List ControllerCall) → IsPrefix xs ys → (knew knows less shown : ℕ) → less ≤ shown → knows ≤ length xs → (fate : Option Fate)
+    → IfSome fate (WentToGroup xs knew knows shown) → IfSome fate (WentToGroup ys knew knows less)
+went_in xs ys p knew knows less shown low within None s = tt
+went_in xs ys p knew knows less shown low within (Some fate) s = record {
+  asked = s.asked;
+  said = (let seen = s.asked.1 in let known = s.asked.2 in let said = said_same xs ys p fate.place shown (omega (arith, seen, known, within)) s.said in omega (arith, low, said));
+}
+
 -- what follows where there is no early refusal
 in_none : {A : Type 0} (X Y : Type 0) (Q : A → Type 0) (o : Option A) → (X → Y) → MatchOption o X Q → MatchOption o Y Q
 in_none X Y Q None f s = f s
@@ -95,7 +104,7 @@ module _ (v w : Trace) (b : Begins v w) where
     logged = λ to_log. logged_in v.log_calls w.log_calls b.log_calls p.logged q.logged x p.pending how.sync (s.logged to_log);
     after = s.after;
   }
-  attempted_in client p how (refused why) q within s = (s.0, refuse_in v.controller_calls w.controller_calls b.controller_calls client p p.seen_up_to q.known (omega arith) how why s.0 s.1, s.2, s.3, s.4)
+  attempted_in client p how (refused why) q within s = (s.0, refuse_in v.controller_calls w.controller_calls b.controller_calls client p p.seen_up_to q.known (omega arith) how why s.0 s.1, s.2, s.3, went_in v.controller_calls w.controller_calls b.controller_calls p.known q.known p.seen_up_to p.seen_up_to (omega arith) within s.0 s.4)
   attempted_in client p how _ q within s = absurd s
 
   up_to_in : (at : ℕ) (front : List Entry) → IsUpTo v.start v.entries at front → IsUpTo w.start w.entries at front

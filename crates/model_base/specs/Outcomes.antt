@@ -10,6 +10,7 @@ use Rattle.model_base.specs.Trace.{Trace, Settings}
 use Rattle.model_base.specs.Attempts.{Attempt}
 use Rattle.model_base.specs.Groups.{Group, AreGroups, AreStatuses}
 use Rattle.model_base.specs.Progress.{Progress}
+use Rattle.model_base.specs.Replies.{IsGivenBack}
 use Rattle.model_base.specs.Runs.{IsTranscript}
 use Rattle.model_base.specs.Calls.{Command, Reply, read_failed, Call, Outcome}
 use Rattle.model_base.specs.LogContents.{AreGroupsOf}
@@ -55,8 +56,8 @@ pub record IsTrace (settings : Settings) (trace : Trace) : Type 0 where
       (λ (t : ControllerCall). IsTrue (is_token t.action) → IsClient settings t.client) trace.controller_calls
 
 -- A client's calls are right in the trace. Its accepted batches are just its entries there. Its token calls are just
--- those there, with the tokens that it gave back at its end: then too it had been shown no more than these calls say.
--- Its commits have statuses that agree with the trace.
+-- those there, with the tokens that it gave back at its end. The number of these calls, too, is no less than what it
+-- had been shown, and calls up to them say all of that. Its commits have statuses that agree with the trace.
 pub record IsLegalTranscript (settings : Settings) (trace : Trace) (fault : Option ℕ) (client : ℕ)
     (commands : List Command) (calls : List Call) (attempts : List Attempt) : Type 0 where
   pub end : Progress
@@ -64,6 +65,8 @@ pub record IsLegalTranscript (settings : Settings) (trace : Trace) (fault : Opti
   pub accepted : entries_of_client client trace.entries ≡ end.mine
   pub shown : ℕ
   pub had : end.seen_up_to ≤ shown
+  pub said : AllByRecursion (IsGivenBack trace.controller_calls client end.known end.seen_up_to)
+      (given_back end.asked shown)
   pub tokens : tokens_of client trace.controller_calls ≡ end.asked ++ given_back end.asked shown
   pub commits : attempts ≡ end.attempts
   pub statuses : AreStatuses trace fault attempts

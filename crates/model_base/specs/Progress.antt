@@ -20,8 +20,8 @@ pub record Progress : Type 0 where
   pub asked : List Action
   -- its commits that leaders took into their groups
   pub attempts : List Attempt
-  -- the greatest sequence that it was shown, by a read, by an accepted batch of its own, or by a token call of its own, up
-  -- to which others had been shown what is published
+  -- the greatest sequence that it was shown, by a read, by an accepted batch of its own, or by a token call of its own,
+  -- up to which others had been shown what is published
   pub seen_up_to : ℕ
   -- how many calls of the controller's history it knows of, from the first one on
   pub known : ℕ

@@ -9,7 +9,8 @@ use Rattle.model_base.specs.Map.{Pairs, after_records}
 use Rattle.model_base.specs.Log.{SpellsWhole}
 use Rattle.model_base.specs.Recovery.{Logged, logged_bytes, last_sequence, AreInOrder, Recovered, RecoveryEnds}
 
--- the front of the file, up to `kept`, spells these batches, and nothing else; their runs rise above the sequence `last`
+-- the front of the file, up to `kept`, spells these batches, and nothing else; their runs rise above the sequence
+-- `last`
 pub record KeepsAfter (last : ℕ) (number : Option ℕ) (file : List ℕ) (kept : ℕ) (batches : List Logged) : Type 0 where
   pub within : kept ≤ length file
   pub spelled : SpellsWhole number (take kept file) (map logged_bytes batches)

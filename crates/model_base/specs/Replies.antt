@@ -111,6 +111,13 @@ IsKeptOut asked fate = holds_stop asked ≡ true → fate ≡ None
 abbrev pub IsWithinCall : ℕ → ℕ → ℕ → ℕ → Type 0
 IsWithinCall knew knows place decided = (knew ≤ place) × (place < decided) × (decided ≤ knows)
 
+-- A commit went to a group, and this is how it ended there. The delay is within the commit's call. By the delay, calls
+-- of the controller had said all that the client had been shown.
+pub record WentToGroup (controller_calls : List ControllerCall) (knew knows seen_up_to : ℕ) (fate : Fate) : Type 0
+  where
+    pub asked : IsWithinCall knew knows fate.place fate.decided
+    pub said : seen_up_to ≤ said_in (take (fate.place + 1) controller_calls)
+
 -- Each command
 
 -- nothing has changed, except perhaps what is known of the controller and of the log's calls
@@ -163,7 +170,7 @@ IsAttempted trace client p how (refused why) q =
     (fate : Option Fate) × MayRefuse trace.controller_calls client p q.known how why fate
     × (q ≡ record p { attempts = with_attempt p.attempts p.pending how fate; known = q.known; logged = q.logged })
     × IsKeptOut p.asked fate
-    × IfSome fate (λ fate. IsWithinCall p.known q.known fate.place fate.decided)
+    × IfSome fate (WentToGroup trace.controller_calls p.known q.known p.seen_up_to)
 IsAttempted trace client p how other q = ⊥
 
 abbrev pub Commits : Settings → Trace → ℕ → Progress → WriteOptions → Reply → Progress → Type 0
@@ -241,6 +248,14 @@ pub record IsDone (trace : Trace) (client : ℕ) (p : Progress) (action : Action
     known = q.known;
     logged = q.logged;
   }
+
+-- A token that the client holds at its end is given back by this call. The controller's history has the call, after all
+-- that was known, and calls up to it say all that the client had been shown.
+pub record IsGivenBack (controller_calls : List ControllerCall) (client known seen_up_to : ℕ) (action : Action) : Type 0
+  where
+    pub place : ℕ
+    pub is_later : IsLater controller_calls known place (record { client = client; action = action; told = None })
+    pub said : seen_up_to ≤ said_in (take (place + 1) controller_calls)
 
 abbrev pub Stops : Trace → ℕ → Progress → Reply → Progress → Type 0
 Stops trace client p done q = (holds_stop p.asked ≡ false) × (shown : ℕ)

@@ -1,8 +1,7 @@
 -- A client read a batch before it took a stop of which the batch's client had learned before the batch was accepted.
-use Rattle.std.proofs.Common.{◌≡◌, ◌⊎◌, ℕ, zero, suc, ◌+◌, ◌<◌, ◌≤◌, max, Bool, true, false, IsTrue, cond, ◌==◌, ◌&&◌, None, Some, List, [], ◌∷◌, ◌++◌, map, take, refl, sym, arith, ap, ◌∙◌, subst, inl, inr}
+use Rattle.std.proofs.Common.{◌≡◌, ◌⊎◌, ℕ, zero, suc, ◌+◌, ◌<◌, ◌≤◌, max, Bool, true, false, IsTrue, cond, ◌==◌, ◌&&◌, Some, List, [], ◌∷◌, ◌++◌, map, take, refl, sym, arith, ap, ◌∙◌, subst, inl, inr}
 use Rattle.std.specs.Prelude.{codes}
 use Rattle.std.specs.List.{AllByRecursion}
-use Rattle.std.proofs.lemmas.Bool.{cases_Bool}
 use Rattle.std.proofs.lemmas.Bool.Decides.{nat_tests}
 use Rattle.model_base.specs.declared.write.Refusal.TheVariants as no
 use Rattle.model_base.specs.Calls.{found, refused}

@@ -1,5 +1,5 @@
 -- A batch that is accepted at a sequence after which there was no room for an earlier one.
-use Rattle.std.proofs.Common.{◌≡◌, ℕ, ◌<◌, ◌≤◌, false, None, Some, List, [], ◌∷◌, ◌++◌, refl, arith, ap, ◌∙◌, subst}
+use Rattle.std.proofs.Common.{◌≡◌, ℕ, ◌<◌, ◌≤◌, false, None, List, [], ◌∷◌, ◌++◌, refl, arith, ap, ◌∙◌, subst}
 use Rattle.model_base.specs.Varint.{varint_within}
 use Rattle.model_base.specs.Batch.{Record}
 use Rattle.model_base.specs.Calls.{clear, quiet, refused}

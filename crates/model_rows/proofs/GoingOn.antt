@@ -54,6 +54,7 @@ transcript = record {
   accepted = refl;
   shown = 2;
   had = lit≤ tt;
+  said = tt;
   tokens = refl;
   commits = refl;
   statuses = (tt, tt);

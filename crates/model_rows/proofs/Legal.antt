@@ -27,12 +27,13 @@ abbrev lost_attempt : Attempt
 lost_attempt = attempt_of put_a1 (faulted 1) 0
 
 abbrev next_attempt : Attempt
-next_attempt = attempt_of put_b2 (faulted 1) 1
+next_attempt = attempt_of put_b2 (faulted 1) 2
 
 abbrev last_attempt : Attempt
-last_attempt = attempt_of put_b2 (faulted 1) 2
+last_attempt = attempt_of put_b2 (faulted 1) 3
 
--- the traces of one batch, of a failed one, and of one batch and two failed ones
+-- The traces of one batch, of a failed one, and of one batch and two failed ones. After the batch the client says that
+-- it was shown it.
 abbrev one_batch : Trace
 one_batch = record { start = 0; opening = []; kept = None; entries = entry_at 1 1 put_a1 ∷ []; logged = (entry_at 1 1 put_a1 ∷ []) ∷ []; controller_calls = delays_of first_attempt; log_calls = writes 1 (put_a1 ∷ []) ∷ [] }
 
@@ -40,7 +41,7 @@ abbrev no_batch : Trace
 no_batch = record { start = 0; opening = []; kept = None; entries = []; logged = []; controller_calls = delays_of lost_attempt; log_calls = [] }
 
 abbrev one_of_three : Trace
-one_of_three = record { start = 0; opening = []; kept = None; entries = entry_at 1 1 put_a1 ∷ []; logged = (entry_at 1 1 put_a1 ∷ []) ∷ []; controller_calls = three_delays first_attempt next_attempt last_attempt; log_calls = writes 1 (put_a1 ∷ []) ∷ [] }
+one_of_three = record { start = 0; opening = []; kept = None; entries = entry_at 1 1 put_a1 ∷ []; logged = (entry_at 1 1 put_a1 ∷ []) ∷ []; controller_calls = three_delays 1 first_attempt next_attempt last_attempt; log_calls = writes 1 (put_a1 ∷ []) ∷ [] }
 
 abbrev three_own_groups : List Group
 three_own_groups = three_groups first_attempt next_attempt last_attempt
@@ -77,6 +78,7 @@ accepted_transcript = record {
   accepted = refl;
   shown = 1;
   had = lit≤ tt;
+  said = tt;
   tokens = refl;
   commits = refl;
   statuses = (tt, tt);
@@ -127,7 +129,7 @@ refused_transcript = record {
     steps one_client no_batch fresh _ _ begun refl (lit≤ tt) (lit≤ tt) refl (lit≤ tt) (lit≤ tt),
     (
       fell_first,
-      steps one_client no_batch begun _ _ fell_first (fate_at 0 1 (faulted 1), refl, refl, not_kept_out [] _ refl, (lit≤ tt, lit≤ tt, lit≤ tt)) (lit≤ tt) (lit≤ tt) refl (lit≤ tt) (lit≤ tt),
+      steps one_client no_batch begun _ _ fell_first (fate_at 0 1 (faulted 1), refl, refl, not_kept_out [] _ refl, record { asked = (lit≤ tt, lit≤ tt, lit≤ tt); said = lit≤ tt }) (lit≤ tt) (lit≤ tt) refl (lit≤ tt) (lit≤ tt),
       (
         fell_first,
         steps one_client no_batch fell_first _ _ fell_first (record { front = []; is_front = record { rest = []; split = refl; ends = refl }; not_below = lit≤ tt; answer = refl; after = refl }) (lit≤ tt) (lit≤ tt) refl (lit≤ tt) (lit≤ tt),
@@ -138,6 +140,7 @@ refused_transcript = record {
   accepted = refl;
   shown = 0;
   had = lit≤ tt;
+  said = tt;
   tokens = refl;
   commits = refl;
   statuses = (refl, tt);
@@ -179,10 +182,10 @@ abbrev begun_again : Progress
 begun_again = added put_b2 taken_once
 
 abbrev fell_once : Progress
-fell_once = fell (faulted 1) 1 begun_again
+fell_once = fell (faulted 1) 2 begun_again
 
 abbrev fell_twice : Progress
-fell_twice = fell (faulted 1) 2 fell_once
+fell_twice = fell (faulted 1) 3 fell_once
 
 abbrev seen_at_last : Progress
 seen_at_last = shown 1 fell_twice
@@ -203,10 +206,10 @@ failing_transcript = record {
         steps one_client one_of_three taken_once _ _ begun_again refl (lit≤ tt) (lit≤ tt) refl (lit≤ tt) (lit≤ tt),
         (
           fell_once,
-          steps one_client one_of_three begun_again _ _ fell_once (fate_at 1 2 (faulted 1), refl, refl, not_kept_out [] _ refl, (lit≤ tt, lit≤ tt, lit≤ tt)) (lit≤ tt) (lit≤ tt) refl (lit≤ tt) (lit≤ tt),
+          steps one_client one_of_three begun_again _ _ fell_once (fate_at 2 3 (faulted 1), refl, refl, not_kept_out [] _ refl, record { asked = (lit≤ tt, lit≤ tt, lit≤ tt); said = lit≤ tt }) (lit≤ tt) (lit≤ tt) refl (lit≤ tt) (lit≤ tt),
           (
             fell_twice,
-            steps one_client one_of_three fell_once _ _ fell_twice (fate_at 2 3 (faulted 1), refl, refl, not_kept_out [] _ refl, (lit≤ tt, lit≤ tt, lit≤ tt)) (lit≤ tt) (lit≤ tt) refl (lit≤ tt) (lit≤ tt),
+            steps one_client one_of_three fell_once _ _ fell_twice (fate_at 3 4 (faulted 1), refl, refl, not_kept_out [] _ refl, record { asked = (lit≤ tt, lit≤ tt, lit≤ tt); said = lit≤ tt }) (lit≤ tt) (lit≤ tt) refl (lit≤ tt) (lit≤ tt),
             (
               seen_at_last,
               steps one_client one_of_three fell_twice _ _ seen_at_last (record { front = entry_at 1 1 put_a1 ∷ []; is_front = record { rest = []; split = refl; ends = refl }; not_below = lit≤ tt; answer = refl; after = refl }) (lit≤ tt) (lit≤ tt) refl (lit≤ tt) (lit≤ tt),
@@ -224,6 +227,7 @@ failing_transcript = record {
   accepted = refl;
   shown = 1;
   had = lit≤ tt;
+  said = tt;
   tokens = refl;
   commits = refl;
   statuses = (tt, (refl, (refl, tt)));
@@ -241,17 +245,17 @@ failed_write-legal = record {
       kept = refl;
       entries = (record { counted = refl; some = lit≤ tt; first = refl; fits = lit≤ tt }, tt);
       logged = record { cut = refl; none_empty = (lit≤ tt, tt); runs = (tt, tt) };
-      controller_calls = (refl, (refl, (refl, tt)));
-      heard = heard_without_tokens _ (refl, (refl, (refl, tt)));
+      controller_calls = (refl, (refl, (refl, (refl, tt))));
+      heard = heard_without_tokens _ (refl, (refl, (refl, (refl, tt))));
       clients = ((lit≤ tt, lit≤ tt), tt);
-      tokens = ((λ is. cc), ((λ is. cc), ((λ is. cc), tt)));
+      tokens = ((λ is. cc), ((λ is. cc), ((λ is. cc), ((λ is. cc), tt))));
     };
     history = refl;
     clients = refl;
     count = refl;
     count_attempts = refl;
     groups = three_own_groups;
-    are_groups = three_alone first_attempt next_attempt last_attempt (refl, (refl, (refl, tt))) (refl, (refl, (refl, tt))) refl refl refl;
+    are_groups = three_alone 1 first_attempt next_attempt last_attempt (refl, (refl, (refl, tt))) (refl, (refl, (refl, tt))) refl refl refl;
     each = each_one one_client one_of_three (Some 1) _ failing_calls seen_at_last.attempts failing_transcript;
     last = refl;
     state = refl;

@@ -13,6 +13,7 @@ pub mod OwnSlowdown
 pub mod OthersStop
 pub mod EarlyRead
 pub mod ThroughStop
+pub mod WhenFull
 pub mod Unwritten
 pub mod Waits
 pub mod WholeLogs

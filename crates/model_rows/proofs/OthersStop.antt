@@ -14,7 +14,7 @@ use Rattle.model_base.specs.Controller.{ControllerCall, Action, Numbers, After, 
 use Rattle.model_base.specs.Tokens.{is_token, given_back, holds_stop}
 use Rattle.model_base.specs.Trace.{Trace}
 use Rattle.model_base.specs.Attempts.{Attempt, succeeded, slowed, Fate, with_attempt}
-use Rattle.model_base.specs.Groups.{Group, Member, IsCommit, MayProceed, HasOneFate, AreGroups}
+use Rattle.model_base.specs.Groups.{Group, Member, IsCommit, MayProceed, is_slowed, HasOneFate, AreGroups}
 use Rattle.model_base.specs.Progress.{Progress, fresh, early_refusal}
 use Rattle.model_base.specs.Replies.{IsTold}
 use Rattle.model_base.specs.Runs.{Run}
@@ -190,7 +190,7 @@ of_both (t ∷ calls) named =
     sums (stops_in calls) (stops_in a) (stops_in b) (one_if_stop t.action) (kept first t.action) (kept second t.action) (stops_in (cond first (t ∷ a) a)) (stops_in (cond second (t ∷ b) b)) (of_both calls named.1) (is_kept t.client t.action named.0) (counted first t a)
     (counted second t b)
 
--- The group of the accepted commit
+-- The group of a commit that wasn't held up
 
 -- a call in the history, from this place on and before the other one, reported no stop
 pub record SawFree (calls : List ControllerCall) (place decided : ℕ) : Type 0 where
@@ -232,7 +232,7 @@ at_last [] own more = refl
 at_last (h ∷ before) own more = at_last before own more
 
 module _ (calls : List ControllerCall) (groups : List Group) (attempts : List (List Attempt)) (are_groups : AreGroups 1048576 calls groups attempts) (before : List Attempt) (own : Attempt) (more : List Attempt) (there : slice_get attempts 0 ≡ Some (before ++ own ∷ more))
-    (waits : own.options.no_slowdown ≡ false) (written : own.status ≡ succeeded) (later : own.place < own.decided) where
+    (waits : own.options.no_slowdown ≡ false) (went_on : is_slowed own.status ≡ false) (later : own.place < own.decided) where
   -- the commit that is a member of the group
   is_own : (m : Member) → m.client ≡ 1 → m.call ≡ length before → (c : IsCommit attempts m) → c.attempt ≡ own
   is_own m client call c =
@@ -244,10 +244,10 @@ module _ (calls : List ControllerCall) (groups : List Group) (attempts : List (L
   stands g m among at client call here s =
       let one = zip_at _ g.members s.statuses among m s.are at in
       let is = is_own m client call one.2.0 in
-      let status : one.0 ≡ succeeded = sym one.2.1 ∙ ap (λ (h : Attempt). h.status) is ∙ written in
+      let not_slowed : is_slowed one.0 ≡ false = ap is_slowed (sym one.2.1 ∙ ap (λ (h : Attempt). h.status) is) ∙ went_on in
       let decided : own.decided ≡ s.decided = sym (ap (λ (h : Attempt). h.decided) is) ∙ one.2.3 in
       elim s.together [
-        | inl slow ↦ (let slow_too : one.0 ≡ slowed = all_at (λ status. status ≡ slowed) s.statuses among one.0 slow one.1 in absurd (cc (slow_too, status)))
+        | inl slow ↦ (let slow_too : one.0 ≡ slowed = all_at (λ status. status ≡ slowed) s.statuses among one.0 slow one.1 in absurd (cc (ap is_slowed slow_too, not_slowed)))
         | inr on ↦ (
             let p = on.1 in
             let item = slice_get-map (λ (n : Member). n.item) g.members among ∙ ap (option_map (λ (n : Member). n.item)) at in
@@ -307,7 +307,7 @@ record Learned (calls : List ControllerCall) (end : Progress) : Type 0 where
   own : Attempt
   attempts : end.attempts ≡ before ++ own ∷ []
   waits : own.options.no_slowdown ≡ false
-  written : own.status ≡ succeeded
+  went_on : is_slowed own.status ≡ false
   later : own.place < own.decided
   first : IsToldIn calls 0 own.place (record { stops = 1; delays = 0; wait = 0 })
   known : ℕ
@@ -340,7 +340,7 @@ learned trace end run =
       attempts = ap (λ (x : Progress). x.attempts) run.2.2.2.2.2.2 ∙ ap (λ (x : Progress). x.attempts) second.2 ∙ ap (with_attempt again.attempts again.pending noslow) outside
           ∙ ap (λ (x : Progress). x.attempts) adding_again ∙ ap (λ (x : Progress). x.attempts) token.after ∙ ap (λ (x : Progress). x.attempts) a.after;
       waits = refl;
-      written = refl;
+      went_on = refl;
       later = a.asked.1;
       first = wider trace.controller_calls begun.known refused_at.known 0 a.place _ (omega arith) before_it (told_in_call trace.controller_calls (holds_stop begun.asked) 1 begun.known refused_at.known _ first.0 first.1.1);
       known = last.known;
@@ -362,7 +362,7 @@ not_ignored ended legal =
     let one = l.each 0 _ _ refl refl in let two = l.each 1 _ _ refl refl in let mine = one.2 in let other = two.2 in
     let s = learned trace mine.end (run_of two_clients trace 1 _ stopped_calls mine.end (λ e. cc) mine.is_transcript) in
     let token = stops_once trace other.end (run_of two_clients trace 2 _ (says_done stop ∷ []) other.end (λ e. cc) other.is_transcript) in
-    let free = saw_free calls l.groups legal.attempts l.are_groups s.before s.own [] (one.1 ∙ ap (λ h. Some h) (mine.commits ∙ s.attempts)) s.waits s.written s.later in
+    let free = saw_free calls l.groups legal.attempts l.are_groups s.before s.own [] (one.1 ∙ ap (λ h. Some h) (mine.commits ∙ s.attempts)) s.waits s.went_on s.later in
     let first = s.first in let last = s.last in
     let first_before = first.before in let free_later = free.later in let free_before = free.before in let last_later = last.later in
     let none = free.free in

@@ -1,5 +1,5 @@
 -- Groups of one commit each, of the one client that commits.
-use Rattle.std.proofs.Common.{◌≡◌, ℕ, zero, suc, ◌+◌, ◌<◌, false, Some, None, List, [], ◌∷◌, map, length, slice_get, refl, ap, sym, ◌∙◌, subst, inl, inr, arith}
+use Rattle.std.proofs.Common.{◌≡◌, ℕ, zero, suc, ◌+◌, false, Some, None, List, [], ◌∷◌, map, slice_get, refl, ap, sym, ◌∙◌, subst, inl, inr, arith}
 use Rattle.std.specs.List.{AllByRecursion}
 use Rattle.model_base.specs.Grouping.{size_of}
 use Rattle.model_base.specs.Controller.{ControllerCall, delay, say, Look}
@@ -121,17 +121,17 @@ module _ (shown : ℕ) (h : Attempt) (waits : h.options.no_slowdown ≡ false) (
     together = (stands_together (said_delays_of shown h) said_group 1 0 h (h ∷ []) [] refl calm at refl written (rw waits (inl refl)), tt);
   }
 
--- three such delays, one after another
-abbrev pub three_delays : Attempt → Attempt → Attempt → List ControllerCall
-three_delays a b c = delay_of a calm ∷ delay_of b calm ∷ delay_of c calm ∷ []
+-- three such delays, after the first of which the client says what it has been shown
+abbrev pub three_delays : ℕ → Attempt → Attempt → Attempt → List ControllerCall
+three_delays shown a b c = delay_of a calm ∷ record { client = 1; action = say shown; told = None } ∷ delay_of b calm ∷ delay_of c calm ∷ []
 
 abbrev pub three_groups : Attempt → Attempt → Attempt → List Group
-three_groups a b c = own 0 0 a ∷ own 1 1 b ∷ own 2 2 c ∷ []
+three_groups a b c = own 0 0 a ∷ own 2 1 b ∷ own 3 2 c ∷ []
 
-module _ (a b c : Attempt) (wait : AllByRecursion (λ (h : Attempt). h.options.no_slowdown ≡ false) (a ∷ b ∷ c ∷ [])) (written : AllByRecursion (λ (h : Attempt). is_slowed h.status ≡ false) (a ∷ b ∷ c ∷ []))
-    (at_a : a.place ≡ 0) (at_b : b.place ≡ 1) (at_c : c.place ≡ 2) where
+module _ (shown : ℕ) (a b c : Attempt) (wait : AllByRecursion (λ (h : Attempt). h.options.no_slowdown ≡ false) (a ∷ b ∷ c ∷ [])) (written : AllByRecursion (λ (h : Attempt). is_slowed h.status ≡ false) (a ∷ b ∷ c ∷ []))
+    (at_a : a.place ≡ 0) (at_b : b.place ≡ 2) (at_c : c.place ≡ 3) where
   abbrev delays : List ControllerCall
-  delays = three_delays a b c
+  delays = three_delays shown a b c
 
   abbrev groups : List Group
   groups = three_groups a b c
@@ -141,23 +141,23 @@ module _ (a b c : Attempt) (wait : AllByRecursion (λ (h : Attempt). h.options.n
 
   held_each : (call : ℕ) (g : Attempt) → slice_get commits call ≡ Some g → Holds groups g.place 1 call
   held_each zero g there = placed groups 1 0 0 a g there at_a (holds delays groups 0 0 a 0 refl)
-  held_each (suc zero) g there = placed groups 1 1 1 b g there at_b (holds delays groups 1 1 b 1 refl)
-  held_each (suc (suc zero)) g there = placed groups 1 2 2 c g there at_c (holds delays groups 2 2 c 2 refl)
+  held_each (suc zero) g there = placed groups 1 1 2 b g there at_b (holds delays groups 2 1 b 1 refl)
+  held_each (suc (suc zero)) g there = placed groups 1 2 3 c g there at_c (holds delays groups 3 2 c 2 refl)
   held_each (suc (suc (suc call))) g there = absurd (cc)
 
   pub three_alone : AreGroups 1048576 delays groups (commits ∷ [])
   three_alone = record {
-    each = (asked_for delays groups 0 0 a 1048576 calm refl, (asked_for delays groups 1 1 b 1048576 calm refl, (asked_for delays groups 2 2 c 1048576 calm refl, tt)));
-    all = ((λ is. has_place delays groups 0 0 a 0 refl), ((λ is. has_place delays groups 1 1 b 1 refl), ((λ is. has_place delays groups 2 2 c 2 refl), tt)));
+    each = (asked_for delays groups 0 0 a 1048576 calm refl, (asked_for delays groups 2 1 b 1048576 calm refl, (asked_for delays groups 3 2 c 1048576 calm refl, tt)));
+    all = ((λ is. has_place delays groups 0 0 a 0 refl), ((λ is. cc), ((λ is. has_place delays groups 2 1 b 1 refl), ((λ is. has_place delays groups 3 2 c 2 refl), tt))));
     places = (((λ e. cc), ((λ e. cc), tt)), (((λ e. cc), tt), (tt, tt)));
-    commits = (is_commit delays groups 0 0 a commits [] refl, (is_commit delays groups 1 1 b commits [] refl, (is_commit delays groups 2 2 c commits [] refl, tt)));
+    commits = (is_commit delays groups 0 0 a commits [] refl, (is_commit delays groups 2 1 b commits [] refl, (is_commit delays groups 3 2 c commits [] refl, tt)));
     apart = (((λ same e. cc), ((λ same e. cc), tt)), (((λ same e. cc), tt), (tt, tt)));
     none_else = none_else_by groups commits [] tt held_each;
     together = (
       stands_together delays groups 0 0 a commits [] refl calm at_a refl written.0 (rw wait.0 (inl refl)),
       (
-        stands_together delays groups 1 1 b commits [] refl calm at_b refl written.1.0 (rw wait.1.0 (inl refl)),
-        (stands_together delays groups 2 2 c commits [] refl calm at_c refl written.1.1.0 (rw wait.1.1.0 (inl refl)), tt),
+        stands_together delays groups 2 1 b commits [] refl calm at_b refl written.1.0 (rw wait.1.0 (inl refl)),
+        (stands_together delays groups 3 2 c commits [] refl calm at_c refl written.1.1.0 (rw wait.1.1.0 (inl refl)), tt),
       ),
     );
   }

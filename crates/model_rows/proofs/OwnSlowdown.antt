@@ -1,25 +1,25 @@
 -- A commit of a client that slows writes itself: its group's delay says that writes are held up.
-use Rattle.std.proofs.Common.{◌≡◌, ℕ, zero, suc, ◌+◌, ◌-◌, ◌*◌, ◌^◌, ◌<◌, ◌≤◌, min, max, Bool, true, false, IsTrue, cond, ◌==◌, nat_le, ◌&&◌, None, Some, List, [], ◌∷◌, ◌++◌, length, map, sum_by, take, slice_get, refl, sym, ap, ◌∙◌, subst, inl, inr, arith}
+use Rattle.std.proofs.Common.{◌≡◌, ℕ, zero, suc, ◌+◌, ◌-◌, ◌*◌, ◌<◌, ◌≤◌, Bool, true, false, IsTrue, cond, ◌==◌, nat_le, ◌&&◌, None, Some, List, [], ◌∷◌, ◌++◌, length, map, take, slice_get, refl, sym, ap, ◌∙◌, subst, inl, inr, arith}
 use Rattle.std.specs.Int.{div_ceil}
 use Rattle.std.specs.List.{AllByRecursion}
-use Rattle.std.proofs.lemmas.Bool.{cond-true, cond-false, lt-leb, cases_Bool}
+use Rattle.std.proofs.lemmas.Bool.{cond-false, lt-leb, cases_Bool}
 use Rattle.std.proofs.lemmas.Bool.Decides.{nat_tests}
 use Rattle.std.proofs.lemmas.List.Sums.{sum_by-cons}
 use Rattle.std.proofs.lemmas.Option.{slice_get_within}
 use Rattle.model_base.specs.Varint.{varint_within}
 use Rattle.model_base.specs.declared.group.Item.{Item}
-use Rattle.model_base.specs.Batch.{Record, size_of_batch}
+use Rattle.model_base.specs.Batch.{size_of_batch}
 use Rattle.model_base.specs.Calls.{unslow, Call, Outcome}
 use Rattle.model_base.specs.Controller as controller
 use Rattle.model_base.specs.Controller.{ControllerCall, Action, Numbers, After, Look, HoldUp, opening, at_most_u64, look_with, after_start, after_refill, after_payment, after_debt, after_due_refill, after_delay, numbers_after, answer, IsHistoryFrom}
 use Rattle.model_base.specs.Grouping.{size_of}
 use Rattle.model_base.specs.Tokens.{is_token, tokens_of}
 use Rattle.model_base.specs.Attempts.{Attempt, WriteStatus, succeeded, slowed, fate_at, with_attempt, item_of}
-use Rattle.model_base.specs.Groups.{Group, Member, IsCommit, HasOneFate, HasPlace, AreAsked, AreGroups, MayProceed, is_delay, items_of}
-use Rattle.model_base.specs.Trace.{Trace, Settings}
+use Rattle.model_base.specs.Groups.{Group, Member, IsCommit, HasOneFate, AreAsked, AreGroups, MayProceed, is_delay, items_of}
+use Rattle.model_base.specs.Trace.{Trace}
 use Rattle.model_base.specs.Progress.{Progress, fresh}
 use Rattle.model_base.specs.Runs.{Run}
-use Rattle.model_base.specs.Outcomes.{IsClient, IsLegal, IsLegalIn, IsLegalTranscript}
+use Rattle.model_base.specs.Outcomes.{IsClient, IsLegal, IsLegalIn}
 use Rattle.model_rows.specs.Examples.{put_a1, noslow}
 use Rattle.model_rows.specs.Runs.{one_client}
 use Rattle.model_rows.specs.Ignored.{says_done, slow_commands, slow_calls, slow_script, slow_ignored, kept_slow_ignored}

@@ -92,6 +92,7 @@ refused_transcript = record {
   accepted = refl;
   shown = 0;
   had = lit≤ tt;
+  said = tt;
   tokens = refl;
   commits = refl;
   statuses = tt;

@@ -1,8 +1,7 @@
 -- A commit was written while another client stopped writes, as its reads in that stop show.
-use Rattle.std.proofs.Common.{◌≡◌, ◌⊎◌, ℕ, zero, suc, ◌+◌, ◌<◌, ◌≤◌, max, nat_lt, Bool, true, false, IsTrue, cond, ◌==◌, ◌&&◌, Option, None, Some, List, [], ◌∷◌, ◌++◌, length, map, take, slice_get, refl, sym, arith, ap, ◌∙◌, subst, inl, inr, append_assoc, append-nil}
+use Rattle.std.proofs.Common.{◌≡◌, ◌⊎◌, ℕ, zero, suc, ◌+◌, ◌<◌, ◌≤◌, max, nat_lt, Bool, true, false, IsTrue, cond, ◌==◌, ◌&&◌, Option, None, Some, List, [], ◌∷◌, ◌++◌, map, take, slice_get, refl, sym, arith, ap, ◌∙◌, subst, inl, inr, append_assoc, append-nil}
 use Rattle.std.specs.Prelude.{codes}
 use Rattle.std.specs.List.{AllByRecursion}
-use Rattle.std.proofs.lemmas.Bool.{cases_Bool}
 use Rattle.std.proofs.lemmas.Bool.Decides.{nat_tests}
 use Rattle.model_base.specs.Varint.{varint_within}
 use Rattle.model_base.specs.declared.write.Refusal.TheVariants as no
@@ -16,9 +15,10 @@ use Rattle.model_base.specs.Trace.{Trace}
 use Rattle.model_base.specs.Attempts.{Attempt, succeeded, Fate, with_attempt}
 use Rattle.model_base.specs.Progress.{Progress, fresh, early_refusal}
 use Rattle.model_base.specs.Replies.{Gets, Stops}
+use Rattle.model_base.specs.Groups.{is_slowed}
 use Rattle.model_base.specs.Runs.{Run}
 use Rattle.model_base.specs.Outcomes.{IsClient, IsLegal}
-use Rattle.model_base.proofs.Shown.{shown_from, shown_at_least, shown_from_more, shown_in_fewer, said_in_fewer}
+use Rattle.model_base.proofs.Shown.{shown_at_least, shown_from_more, shown_in_fewer, said_in_fewer}
 use Rattle.model_rows.specs.Examples.{put_a1, put_a2, put_b2, plain, noslow, key_a}
 use Rattle.model_rows.specs.Runs.{two_clients}
 use Rattle.model_rows.specs.Ignored.{through_script, through_calls, watching_calls, kept_script, written_through_a_stop, written_through_a_kept_stop, blind_script, stopped_at_last_calls, blind_calls, blind_in_its_own_stop}
@@ -157,7 +157,7 @@ record Wrote (calls : List ControllerCall) (end : Progress) : Type 0 where
   more : List Attempt
   attempts : end.attempts ≡ before ++ own ∷ more
   waits : own.options.no_slowdown ≡ false
-  written : own.status ≡ succeeded
+  went_on : is_slowed own.status ≡ false
   later : own.place < own.decided
   said : 1 ≤ said_in (take (own.place + 1) calls)
   unseen : shown_by_tokens (take own.decided calls) < 2
@@ -178,7 +178,7 @@ wrote_two trace end run =
       more = [];
       attempts = ap (λ (x : Progress). x.attempts) run.2.2.2.2 ∙ ap (λ (x : Progress). x.attempts) b.after;
       waits = refl;
-      written = refl;
+      went_on = refl;
       later = b.asked.1;
       said = omega (arith, shown, still, said);
       unseen = b.unseen;
@@ -187,15 +187,15 @@ wrote_two trace end run =
 
 -- Client 2's stop
 
--- it took a stop, up to which nothing was said: it read at 0 then
-record Stopped (calls : List ControllerCall) : Type 0 where
-  at : ℕ
-  shown : ℕ
-  there : slice_get calls at ≡ Some (record { client = 2; action = controller.stop shown; told = None })
-  none : said_in (take (at + 1) calls) ≤ 0
+-- it took a stop, up to which nothing above this was said: it read there then
+pub record Stopped (calls : List ControllerCall) (most : ℕ) : Type 0 where
+  pub at : ℕ
+  pub shown : ℕ
+  pub there : slice_get calls at ≡ Some (record { client = 2; action = controller.stop shown; told = None })
+  pub none : said_in (take (at + 1) calls) ≤ most
 
-stopped_by : (trace : Trace) → AreHeard trace.controller_calls → (q : Progress) → (token : Stops trace 2 fresh done q) → q.seen_up_to ≤ 0 → Stopped trace.controller_calls
-stopped_by trace heard q token low =
+pub stopped_by : (trace : Trace) → AreHeard trace.controller_calls → (q : Progress) → (token : Stops trace 2 fresh done q) → (most : ℕ) → q.seen_up_to ≤ most → Stopped trace.controller_calls most
+stopped_by trace heard q token most low =
     let d = token.2 in
     let later = d.hears.later in
     let reached = heard d.place d.heard_at d.most (record { client = 2; action = controller.stop token.1; told = None }) d.is_later.there refl (omega (arith, later)) d.hears.there in
@@ -207,14 +207,14 @@ says_two shown later two = ((λ none. absurd (omega (arith, none))), ((λ one. t
 
 -- what client 2 did: it stopped, read at 0 and at 2, and gave the stop back
 record Watched (calls : List ControllerCall) : Type 0 where
-  stopped : Stopped calls
+  stopped : Stopped calls 0
   freed : ℕ
   two : 2 ≤ freed
   tokens : tokens_of 2 calls ≡ controller.stop stopped.shown ∷ controller.unstop freed ∷ []
 
 -- If the delay or the look that let the second commit go on is before the stop, the client that stopped was shown the
 -- first one. If it is after the stop, that was given back before, and its client had been shown the second one.
-through_order : (calls : List ControllerCall) → IsHistoryFrom opening calls → AllSayTwo calls → (place decided : ℕ) (free : SawFree calls place decided) → 1 ≤ said_in (take (place + 1) calls) → shown_by_tokens (take decided calls) < 2 → (stopped : Stopped calls)
+through_order : (calls : List ControllerCall) → IsHistoryFrom opening calls → AllSayTwo calls → (place decided : ℕ) (free : SawFree calls place decided) → 1 ≤ said_in (take (place + 1) calls) → shown_by_tokens (take decided calls) < 2 → (stopped : Stopped calls 0)
     → (b : Bool) → nat_lt stopped.at free.at ≡ b → ⊥
 through_order calls history all place decided free said unseen stopped true after =
     let later : stopped.at < free.at = grind (arith, nat_tests) in
@@ -233,7 +233,7 @@ never : (ended : ℕ) (script : List (List Command)) (o : Outcome) (legal : IsLe
     → Watched legal.trace.controller_calls → ⊥
 never ended script o legal mine commits none s w =
     let l = legal.legal in let calls = legal.trace.controller_calls in
-    let free = saw_free calls l.groups legal.attempts l.are_groups s.before s.own s.more (commits ∙ ap (λ h. Some h) s.attempts) s.waits s.written s.later in
+    let free = saw_free calls l.groups legal.attempts l.are_groups s.before s.own s.more (commits ∙ ap (λ h. Some h) s.attempts) s.waits s.went_on s.later in
     let all = all_say_two calls l.is_trace.tokens none (subst (AllByRecursion SaysTwo) (sym w.tokens) (says_two w.stopped.shown w.freed w.two)) in
     through_order calls l.is_trace.controller_calls all s.own.place s.own.decided free s.said s.unseen w.stopped (nat_lt w.stopped.at free.at) refl
 
@@ -248,7 +248,7 @@ not_through ended legal =
     let first = is_answered two_clients (key_a.family ∷ []) run.0 (found 0 None) run.2.0 (Gets trace run.0 key_a (found 0 None) run.2.0) refl run.2.1.replies in
     let second = is_answered two_clients (key_a.family ∷ []) run.2.0 (found 2 (Some (codes "2"))) run.2.2.0 (Gets trace run.2.0 key_a (found 2 (Some (codes "2"))) run.2.2.0) refl run.2.2.1.replies in
     let token = run.1.replies in let back = run.2.2.2.1.replies in
-    let stopped = stopped_by trace l.is_trace.heard run.0 token first.not_below in
+    let stopped = stopped_by trace l.is_trace.heard run.0 token 0 first.not_below in
     let seen : run.2.2.0.seen_up_to ≡ 2 = ap (λ (x : Progress). x.seen_up_to) second.after in
     let had = back.2.had in
     let asked : other.end.asked ≡ controller.stop token.1 ∷ controller.unstop back.1 ∷ [] =
@@ -268,7 +268,7 @@ not_through_kept ended legal =
     let first = is_answered two_clients (key_a.family ∷ []) run.0 (found 0 None) run.2.0 (Gets trace run.0 key_a (found 0 None) run.2.0) refl run.2.1.replies in
     let second = is_answered two_clients (key_a.family ∷ []) run.2.0 (found 2 (Some (codes "2"))) run.2.2.0 (Gets trace run.2.0 key_a (found 2 (Some (codes "2"))) run.2.2.0) refl run.2.2.1.replies in
     let token = run.1.replies in
-    let stopped = stopped_by trace l.is_trace.heard run.0 token first.not_below in
+    let stopped = stopped_by trace l.is_trace.heard run.0 token 0 first.not_below in
     let seen : other.end.seen_up_to ≡ 2 = ap (λ (x : Progress). x.seen_up_to) run.2.2.2 ∙ ap (λ (x : Progress). x.seen_up_to) second.after in
     let had = other.had in
     let asked : other.end.asked ≡ controller.stop token.1 ∷ [] =
@@ -279,7 +279,7 @@ not_through_kept ended legal =
 -- Blind in its own stop
 
 -- with one more attempt, or none
-with_more : (attempts : List Attempt) (records : List Record) (how : WriteOptions) (fate : Option Fate) → (more : List Attempt) × (with_attempt attempts records how fate ≡ attempts ++ more)
+pub with_more : (attempts : List Attempt) (records : List Record) (how : WriteOptions) (fate : Option Fate) → (more : List Attempt) × (with_attempt attempts records how fate ≡ attempts ++ more)
 with_more attempts records how None = ([], sym (append-nil attempts))
 with_more attempts records how (Some fate) = (record { records = records; options = how; status = fate.status; place = fate.place; decided = fate.decided } ∷ [], refl)
 
@@ -318,7 +318,7 @@ wrote_first trace end run =
         more = m.0;
         attempts = ap (λ (x : Progress). x.attempts) run.2.2.2.2.2.2 ∙ ap (λ (x : Progress). x.attempts) third.2 ∙ m.1 ∙ ap (λ hs. hs ++ m.0) was ∙ append_assoc next.attempts (own ∷ []) m.0;
         waits = refl;
-        written = refl;
+        went_on = refl;
         later = b.asked.1;
         said = omega (arith, shown, still, said);
         unseen = b.unseen;
@@ -328,11 +328,11 @@ wrote_first trace end run =
       told = record { place = told.place; call = told.call; there = told.there; told = told.told; later = omega (arith, known, rises, low); before = told.before };
     }
 
--- There is one stop. The call that let the second commit go on reported none, and a later one reported it: so the stop
--- comes after the first of these calls, and who took it was shown the first batch.
-blind_order : (calls : List ControllerCall) → IsHistoryFrom opening calls → AreNamed calls → stops_in (of_client 1 calls) ≡ 0 → stops_in (of_client 2 calls) ≡ 1 → (place decided knows : ℕ) (free : SawFree calls place decided) → IsToldIn calls decided knows (record { stops = 1; delays = 0; wait = 0 })
-    → 1 ≤ said_in (take (place + 1) calls) → (stopped : Stopped calls) → (b : Bool) → nat_lt stopped.at free.at ≡ b → ⊥
-blind_order calls history named of_one of_two place decided knows free told said stopped true after =
+-- There is one stop. The call that let a commit go on reported none, and a later one reported it: so the stop comes after
+-- the first of these calls, and who took it was shown what the commit's client had been shown.
+pub blind_order : (calls : List ControllerCall) → IsHistoryFrom opening calls → AreNamed calls → stops_in (of_client 1 calls) ≡ 0 → stops_in (of_client 2 calls) ≡ 1 → (place decided knows : ℕ) (free : SawFree calls place decided) → IsToldIn calls decided knows (record { stops = 1; delays = 0; wait = 0 })
+    → (most : ℕ) → most < said_in (take (place + 1) calls) → (stopped : Stopped calls most) → (b : Bool) → nat_lt stopped.at free.at ≡ b → ⊥
+blind_order calls history named of_one of_two place decided knows free told most said stopped true after =
     let later : stopped.at < free.at = grind (arith, nat_tests) in
     let told_later = told.later in let before = free.before in let none = free.free in
     let counted = stop_counted calls stopped.at free.at 2 stopped.shown later stopped.there in
@@ -341,7 +341,7 @@ blind_order calls history named of_one of_two place decided knows free told said
     let all = all_taken calls told.place in
     let both = of_both calls named in
     omega (arith, counted, since, none, all, both, of_one, of_two)
-blind_order calls history named of_one of_two place decided knows free told said stopped false not_after =
+blind_order calls history named of_one of_two place decided knows free told most said stopped false not_after =
     let early : free.at ≤ stopped.at = grind (arith, nat_tests) in
     let later = free.later in let nothing = stopped.none in
     let fewer = said_in_fewer 0 calls (place + 1) (stopped.at + 1) (omega (arith, early, later)) in
@@ -353,12 +353,12 @@ not_blind ended legal =
     let one = l.each 0 _ _ refl refl in let two = l.each 1 _ _ refl refl in let mine = one.2 in let other = two.2 in
     let f = wrote_first trace mine.end (run_of two_clients trace 1 _ stopped_at_last_calls mine.end (λ e. cc) mine.is_transcript) in
     let s = f.wrote in
-    let free = saw_free calls l.groups legal.attempts l.are_groups s.before s.own s.more (one.1 ∙ ap (λ h. Some h) (mine.commits ∙ s.attempts)) s.waits s.written s.later in
+    let free = saw_free calls l.groups legal.attempts l.are_groups s.before s.own s.more (one.1 ∙ ap (λ h. Some h) (mine.commits ∙ s.attempts)) s.waits s.went_on s.later in
     let run = run_of two_clients trace 2 _ blind_calls other.end (λ e. cc) other.is_transcript in
     let read = is_answered two_clients (key_a.family ∷ []) run.0 (found 0 None) run.2.0 (Gets trace run.0 key_a (found 0 None) run.2.0) refl run.2.1.replies in
     let token = run.1.replies in
-    let stopped = stopped_by trace l.is_trace.heard run.0 token read.not_below in
+    let stopped = stopped_by trace l.is_trace.heard run.0 token 0 read.not_below in
     let asked : other.end.asked ≡ controller.stop token.1 ∷ [] = ap (λ (x : Progress). x.asked) run.2.2 ∙ ap (λ (x : Progress). x.asked) read.after ∙ ap (λ (x : Progress). x.asked) token.2.after in
     let of_one : stops_in (of_client 1 calls) ≡ 0 = ap stops_among (mine.tokens ∙ ap (λ asked. asked ++ given_back asked mine.shown) s.asked) in
     let of_two : stops_in (of_client 2 calls) ≡ 1 = ap stops_among (other.tokens ∙ ap (λ asked. asked ++ given_back asked other.shown) asked) in
-    blind_order calls l.is_trace.controller_calls l.is_trace.tokens of_one of_two s.own.place s.own.decided f.knows free f.told s.said stopped (nat_lt stopped.at free.at) refl
+    blind_order calls l.is_trace.controller_calls l.is_trace.tokens of_one of_two s.own.place s.own.decided f.knows free f.told 0 s.said stopped (nat_lt stopped.at free.at) refl

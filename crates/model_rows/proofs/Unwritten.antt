@@ -1,7 +1,6 @@
 -- Accepted batches that no call of the log writer had written by then.
-use Rattle.std.proofs.Common.{◌≡◌, ℕ, Some, List, [], ◌∷◌, length, slice_get, refl, arith, subst}
+use Rattle.std.proofs.Common.{◌≡◌, ℕ, Some, List, [], ◌∷◌, slice_get, refl, arith, subst}
 use Rattle.std.proofs.lemmas.Option.{slice_get_within}
-use Rattle.model_base.specs.LogContents.{GroupCall, IsLoggedBy}
 use Rattle.model_base.specs.Trace.{Trace}
 use Rattle.model_base.specs.Attempts.{Attempt}
 use Rattle.model_base.specs.Progress.{Progress, fresh}

@@ -1,5 +1,5 @@
 -- A commit that waited for another client's stop to be given back.
-use Rattle.std.proofs.Common.{◌≡◌, ℕ, zero, suc, ◌+◌, ◌<◌, None, Some, List, [], ◌∷◌, ◌++◌, slice_get, refl, subst, arith, inr}
+use Rattle.std.proofs.Common.{◌≡◌, ℕ, zero, suc, ◌+◌, None, Some, List, [], ◌∷◌, ◌++◌, slice_get, refl, subst, arith, inr}
 use Rattle.std.proofs.Math.Dec.{lit≤}
 use Rattle.model_base.specs.Varint.{varint_within}
 use Rattle.model_base.specs.Controller as controller
@@ -80,6 +80,7 @@ waiting_transcript = record {
   accepted = refl;
   shown = 1;
   had = lit≤ tt;
+  said = tt;
   tokens = refl;
   commits = refl;
   statuses = (tt, tt);
@@ -107,6 +108,7 @@ stopping_transcript = record {
   accepted = refl;
   shown = 0;
   had = lit≤ tt;
+  said = tt;
   tokens = refl;
   commits = refl;
   statuses = tt;

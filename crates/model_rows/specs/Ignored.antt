@@ -4,8 +4,9 @@ use Rattle.model_base.specs.Batch.{Record}
 use Rattle.model_base.specs.declared.write.Refusal.TheVariants as no
 use Rattle.model_base.specs.Calls.{Command, add, commit, get, stop, unstop, slow, unslow, accepted, refused, done, Call, Outcome}
 use Rattle.model_base.specs.LogContents.{GroupCall}
+use Rattle.model_base.specs.Trace.{Settings}
 use Rattle.model_rows.specs.Examples.{put_a1, put_a2, put_b2, plain, noslow, key_a, key_b}
-use Rattle.model_rows.specs.Runs.{entry_at, adds, commits, reads, one_commit, stale_read}
+use Rattle.model_rows.specs.Runs.{two_clients, entry_at, adds, commits, finds_full, reads, one_commit, stale_read}
 
 abbrev pub says_done : Command → Call
 says_done c = record { command = c; reply = done }
@@ -132,3 +133,31 @@ blind_calls = says_done stop ∷ reads key_a 0 None ∷ []
 
 abbrev pub blind_in_its_own_stop : Outcome
 blind_in_its_own_stop = record two_commits { transcripts = stopped_at_last_calls ∷ blind_calls ∷ [] }
+
+-- two clients, and one sequence left
+abbrev pub one_left : Settings
+one_left = record two_clients { start = 72057594037927934 }
+
+-- client 1: `put a 1`, `commit`, `put b 2`, `commit`, `commit noslow`; client 2: `stop`, `get a`, `get a`
+abbrev pub full_script : List (List Command)
+full_script =
+    (add put_a1 ∷ commit plain ∷ add put_b2 ∷ commit plain ∷ commit noslow ∷ [])
+    ∷ (stop ∷ get key_a ∷ get key_a ∷ []) ∷ []
+
+-- The first batch has the last sequence, so the second one finds no sequences left, and then it is refused because of
+-- one stop.
+abbrev pub full_then_stopped_calls : List Call
+full_then_stopped_calls =
+    adds put_a1 ∷ commits 72057594037927935 put_a1 ∷ adds put_b2 ∷ finds_full 72057594037927935 ∷ meets_stops 1 ∷ []
+
+-- While client 2 stops writes, it doesn't read the first batch, and then it does.
+abbrev pub blind_then_seeing_calls : List Call
+blind_then_seeing_calls =
+    says_done stop ∷ reads key_a 72057594037927934 None ∷ reads key_a 72057594037927935 (Some (codes "1")) ∷ []
+
+abbrev pub blind_once_full : Outcome
+blind_once_full = record one_commit {
+  transcripts = full_then_stopped_calls ∷ blind_then_seeing_calls ∷ [];
+  history = entry_at 1 72057594037927935 put_a1 ∷ [];
+  last = 72057594037927935;
+}

@@ -296,8 +296,8 @@ told_of_a_stop =
 abbrev pub put_c3 : Record
 put_c3 = value None (codes "c") (codes "3")
 
--- `put a 1`, `commit`, `put b 2`, `commit`, `put c 3`, `commit`: all are accepted. The first is in a log of its own, and
--- the others are in the next one.
+-- `put a 1`, `commit`, `put b 2`, `commit`, `put c 3`, `commit`: all are accepted. The first is in a log of its own,
+-- and the others are in the next one.
 abbrev pub three_calls : List Call
 three_calls = adds put_a1 ∷ commits 1 put_a1 ∷ adds put_b2 ∷ commits 2 put_b2 ∷ adds put_c3 ∷ commits 3 put_c3 ∷ []
 

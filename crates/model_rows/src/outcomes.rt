@@ -4,7 +4,7 @@ ghost use Rattle.std.specs.Prelude.{◌≡◌, ℕ, List, [], ◌∷◌};
 ghost use Rattle.model_base.specs.Attempts.{Attempt};
 ghost use Rattle.model_base.specs.Trace.{Trace};
 ghost use Rattle.model_base.specs.Outcomes.{IsLegal, IsLegalIn};
-ghost use Rattle.model_rows.specs.Ignored.{slow_commands, slow_script, slow_ignored, kept_slow_ignored, stopped_script, others_stop_ignored, foreseen_script, read_before_it_was_written, through_script, kept_script, written_through_a_stop, written_through_a_kept_stop, blind_script, blind_in_its_own_stop, two_script, two_commits, written_at_once};
+ghost use Rattle.model_rows.specs.Ignored.{slow_commands, slow_script, slow_ignored, kept_slow_ignored, stopped_script, others_stop_ignored, foreseen_script, read_before_it_was_written, through_script, kept_script, written_through_a_stop, written_through_a_kept_stop, blind_script, blind_in_its_own_stop, one_left, full_script, blind_once_full, two_script, two_commits, written_at_once};
 ghost use Rattle.model_rows.specs.Runs.{one_client, two_clients, nearly_full, used_up, one_script, one_commit, refused_commit, failing_script, failed_write, stale_script, stale_read, early_script, read_ahead, crossing_script, run_below_what_was_read, later_stop_script, refused_by_a_later_stop, own_stop_script, refused_in_its_own_stop, accepted_in_its_own_stop, failed_in_its_own_stop, full_in_its_own_stop, filling_script, lower_than_full, begun_before, going_on_script, went_on, waiting_script, waited_out, told_of_a_stop, two_families, families_script, in_both_families, torn_script, torn_read};
 
 /// A batch is accepted and then read.
@@ -110,10 +110,10 @@ pub fn read_before_it_was_written()
     ensures not_legal { (ended : ℕ) → IsLegal two_clients ended foreseen_script read_before_it_was_written → ⊥ }
 {}
 
-/// A client stops writes, and reads what was there before another client's two batches, and then the second one. That is
-/// legal in no trace. If the second batch's delay was before the stop, who took it was shown the first batch, which was
-/// accepted before that delay. If it was after the stop, it was after the stop was given back, and so after the second
-/// batch was read.
+/// A client stops writes, and reads what was there before another client's two batches, and then the second one. That
+/// is legal in no trace. If the second batch's delay was before the stop, who took it was shown the first batch, which
+/// was accepted before that delay. If it was after the stop, it was after the stop was given back, and so after the
+/// second batch was read.
 pub fn written_through_a_stop()
     ensures not_legal { (ended : ℕ) → IsLegal two_clients ended through_script written_through_a_stop → ⊥ }
     // or the token is given back at the client's end
@@ -124,6 +124,12 @@ pub fn written_through_a_stop()
 /// batch: that it reads in its stop what was there before both is legal in no trace.
 pub fn blind_in_its_own_stop()
     ensures not_legal { (ended : ℕ) → IsLegal two_clients ended blind_script blind_in_its_own_stop → ⊥ }
+{}
+
+/// A batch is accepted, the client's next one finds no sequences left, and then the client learns of the only stop. Who
+/// took that stop was shown the batch: that it doesn't read it in its stop, and then does, is legal in no trace.
+pub fn blind_once_full()
+    ensures not_legal { (ended : ℕ) → IsLegal one_left ended full_script blind_once_full → ⊥ }
 {}
 
 /// A batch that goes into the log is accepted once a call of the log writer that wrote it has returned. So an outcome

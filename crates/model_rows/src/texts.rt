@@ -21,8 +21,8 @@ pub fn text_of_refused_commit()
         "client 1\nno logfault 1\nnil 0\nhistory 0\nstate 0 0\nlog 0 fault 1\n" }
 {}
 
-/// The line of the log has its length, and then the count of its fault. Of several logs it has the lengths of those that
-/// were begun.
+/// The line of the log has its length, and then the count of its fault. Of several logs it has the lengths of those
+/// that were begun.
 pub fn lines_of_logs()
     ensures one { (len : ℕ) → log_text (len ∷ []) None ≡ line (codes "log" ∷ decimal len ∷ []) }
     ensures one_with_a_fault { (len count : ℕ) → log_text (len ∷ []) (Some count)

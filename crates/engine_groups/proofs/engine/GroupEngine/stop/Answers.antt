@@ -14,7 +14,7 @@ hear-requires g c =
 pub returns-clause-done : goal.returns-clause-done
 returns-clause-done g c =
     let Y = c.say-shown in let H = c.hear.ensures in let done = c.in_ok-stop.ensures.done in
-    let t = asks_if g.Versions.Table c.args.self.now c.args.client.now Y.new.client Y.ensures.keeps Y.ensures.belongs Y.result Y.ensures.said.0 Y.ensures.said.1 c.stop.new.pass c.stop.ensures.own.1 (controller.stop c.say-shown.result) done.1 c.hear.new.client H.keeps H.heard holds_stop false refl (omega arith) done.0 in
+    let t = asks_if g.Versions.Table c.args.self.now c.args.client.now Y.new.client Y.ensures.keeps Y.ensures.belongs Y.result Y.ensures.had Y.ensures.has Y.ensures.said c.stop.new.pass c.stop.ensures.own.1 (controller.stop c.say-shown.result) done.1 c.hear.new.client H.keeps H.heard holds_stop false refl refl done.0 in
     (t.0, Y.result, t.1)
 
 -- it was refused, and nothing was called
