@@ -19,7 +19,8 @@ own_pair key None = []
 own_pair key (Some value) = (key, value) ∷ []
 
 -- What the key's value is among the pairs, and the bytes of the pairs before the key and of those after it.
-pub record IsPlace (key : List ℕ) (rows : Rows) (front : List ℕ) (value : Option (List ℕ)) (back : List ℕ) : Type 0 where
+pub record IsPlace (key : List ℕ) (rows : Rows) (front : List ℕ) (value : Option (List ℕ)) (back : List ℕ)
+    : Type 0 where
   pub before : Rows
   pub after : Rows
   pub parts : rows ≡ before ++ (own_pair key value ++ after)

@@ -16,8 +16,8 @@ use std::slice;
 
 /// A map of keys to values, both of bytes. Contracts see the list of its pairs, in the byte order of the keys.
 ///
-/// The pairs are in pages of some two thousand bytes, and the pages on shelves. So a pair of any key takes hardly more
-/// memory than its bytes, and no look-up and no removal takes any.
+/// The pairs are on pages of some five hundred bytes, and the pages on shelves. So no pair has an allocation of its own,
+/// and no look-up and no removal takes memory.
 #[derive(Debug, Drop)]
 pub struct ByteMap {
     alloc: Global,

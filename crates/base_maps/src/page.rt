@@ -18,9 +18,10 @@ use std::alloc::Global;
 use std::cmp::Ordering;
 use std::marker::Model;
 
-/// A page with two pairs or more is full from this many bytes on. An insertion copies the page that it changes, so a value
-/// that is much longer than this is copied again with each new key of its page.
-const FULL: usize = 2048;
+/// A page with two pairs or more is full from this many bytes on. An insertion makes the bytes of its page anew, and a
+/// search goes through them pair by pair: so larger pages take more time, and smaller ones more memory. A value that is
+/// much longer than this is copied again with each change of its page.
+const FULL: usize = 512;
 
 /// Some pairs of keys and values, in the byte order of the keys. Contracts see the list of them.
 ///
@@ -138,11 +139,11 @@ impl Page {
         let bytes: &[u8] = &self.bytes;
         let (_, _, mut rest) = split_pair(bytes)?;
         // At least one pair is before `rest`.
-        while let Some((_, _, behind)) = split_pair(rest) {
-            if bytes.len() - behind.len() > goal || behind.is_empty() {
+        while let Some((_, _, after)) = split_pair(rest) {
+            if bytes.len() - after.len() > goal || after.is_empty() {
                 return Some(bytes.len() - rest.len());
             }
-            rest = behind;
+            rest = after;
         }
         None
     }

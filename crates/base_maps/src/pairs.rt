@@ -25,19 +25,19 @@ fn split_len(bytes: &[u8]) -> Option<(u32, &[u8])>
 fn split_word(bytes: &[u8]) -> Option<(&[u8], &[u8])>
     ensures { option_map (λ p. (p.0.now, p.1.now)) result ≡ read_word bytes.now }
 {
-    let (len, behind) = split_len(bytes)?;
-    if behind.len() < len as usize {
+    let (len, after) = split_len(bytes)?;
+    if after.len() < len as usize {
         return None;
     }
-    Some(behind.split_at(len as usize))
+    Some(after.split_at(len as usize))
 }
 
 /// The key and the value of the pair at the front of some bytes, and the bytes after it.
 pub(crate) fn split_pair(bytes: &[u8]) -> Option<(&[u8], &[u8], &[u8])>
     ensures { option_map (λ p. ((p.0.now, p.1.now), p.2.now)) result ≡ read_pair bytes.now }
 {
-    let (key, behind) = split_word(bytes)?;
-    let (value, rest) = split_word(behind)?;
+    let (key, after) = split_word(bytes)?;
+    let (value, rest) = split_word(after)?;
     Some((key, value, rest))
 }
 

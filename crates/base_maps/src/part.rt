@@ -53,8 +53,8 @@ pub(crate) trait Part {
         ensures removed { length (rows self.new) + (if result then 1 else 0) ≡ length (rows self.old) };
 
     /// Takes its last pairs out as a part of their own, if it is full and there is memory for that. The key is the one
-    /// that was inserted last. If it is the last of all, few pairs come out, so that parts whose keys come in order stay
-    /// full.
+    /// that was inserted last. If it is the last of all, few pairs come out, so that parts stay full whose keys come in
+    /// order.
     fn split(&mut self, alloc: Global, key: &[u8]) -> Option<Self>
         requires { AreInOrder (rows self.old) }
         ensures { HasSplit (rows self.old) (rows self.new) (option_map rows result) };
