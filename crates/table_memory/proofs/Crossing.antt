@@ -2,13 +2,14 @@
 use denote.Struct.Declared.{shape, fields}
 use denote.Param.Send.{IsSend, IsSync, AllSync, struct_sync, recorded_sync, sendable}
 use Rattle.std.proofs.Crossing.{crosses}
-use Rattle.table_nodes.proofs.node_bytes.NodeBytes.TheSendSync as bytes
+use Rattle.table_nodes.proofs.content.Content.TheSendSync as content
+use Rattle.table_nodes.specs.contracts.links.Links as links
 use Rattle.table_nodes.specs.contracts.node.Node as node
 use Rattle.table_nodes.specs.contracts.node.Nodes as nodes
 use Rattle.table_tree.specs.contracts.tree.Tree as tree
 use Rattle.table_tree.specs.contracts.entry.Entry as entry
 use Rattle.table_tree.specs.contracts.page.Page as page
-use Rattle.table_nodes.proofs.node.Nodes.TheLaws.TheKnot as knot
+use Rattle.table_nodes.proofs.links.Links.TheLaws.TheKnot as knot
 use Rattle.base_keys.proofs.front.Front.TheSendSync as front
 use Rattle.table_tree.proofs.entry.Families.TheSendSync as families
 use Rattle.table_tree.proofs.page.Page.TheLaws.TheKnot as pages
@@ -22,10 +23,13 @@ use Rattle.table_steps.proofs.shared.SharedTable.TheSendSync as shared
 use Rattle.table_memory.specs.contracts.memory_table.MemoryTable as table
 
 pub nodes_send : IsSend nodes.the_row
-nodes_send = search (sendable, crosses, knot.send-Nodes, bytes.the_send) depth 9
+nodes_send = search (sendable, crosses, knot.send-Nodes, content.the_send) depth 9
+
+links_send : IsSend links.the_row
+links_send = search (sendable, crosses, knot.send-Links, content.the_send) depth 9
 
 node_send : IsSend (node.the_field).row
-node_send = search (sendable, crosses, knot.send-Node, nodes_send, bytes.the_send) depth 12
+node_send = search (sendable, crosses, knot.send-Node, links_send, content.the_send) depth 12
 
 entry_send : IsSend entry.the_row
 entry_send = search (sendable, crosses, front.the_send, node_send) depth 12

@@ -3,3 +3,4 @@ pub mod Numbering
 pub mod Members
 pub mod Seen
 pub mod Forests
+pub mod Writing

@@ -1,7 +1,9 @@
 pub mod Chains
 pub mod Codes
+pub mod Content
+pub mod Following
+pub mod Links
 pub mod Newest
-pub mod NodeBytes
 pub mod Nodes
 pub mod Batches
 pub mod Parts

@@ -5,8 +5,9 @@ ghost use Rattle.std.specs.Option.{option_copied, option_map};
 ghost use Rattle.table_rule.specs.declared.content.Version.{Version};
 ghost use Rattle.table_nodes.specs.Chains.{Falls, alone, insert_older, with_version, chain_versions};
 ghost use Rattle.table_nodes.specs.Newest.{first_up_to, newest_with, newest_among};
-ghost use Rattle.table_nodes.specs.Nodes.{at_key, own_key, version_of, chain_of};
+ghost use Rattle.table_nodes.specs.Nodes.{at_key, own_key, version_of, versions_on, chain_of};
 
+use crate::links::Links;
 use crate::node::{Node, Nodes};
 use std::mem;
 
@@ -15,7 +16,7 @@ impl Node {
     pub fn part(&mut self)
         ensures { chain_of self.new ≡ alone (version_of self.old) }
     {
-        self.next = Nodes::new();
+        self.links = Links::none();
     }
 
     /// Puts another version of its key into its chain. One that is newer than the newest changes places with it, so
@@ -24,13 +25,15 @@ impl Node {
         requires { own_key other.value ≡ own_key self.old }
         ensures { chain_of self.new ≡ with_version (chain_of self.old) (version_of other.value) }
     {
+        let mut older = self.links.take_next();
         if other.sequence <= self.sequence {
-            self.next.insert_older(other);
+            older.insert_older(other);
         } else {
-            mem::swap(&mut self.value, &mut other.value);
+            mem::swap(&mut self.content, &mut other.content);
             mem::swap(&mut self.sequence, &mut other.sequence);
-            self.next.push_newest(other);
+            older.push_newest(other);
         }
+        self.links.set_next(older);
     }
 
     /// The newest version in its chain up to a sequence, if there is one.
@@ -41,7 +44,7 @@ impl Node {
         if self.sequence <= at {
             return Some(self);
         }
-        self.next.newest_up_to(at)
+        newest_from(self.links.next(), at)
     }
 }
 
@@ -53,7 +56,7 @@ impl Node {
             (version_of self.now) ≡ (if result then Some (version_of self.now)
             else option_map version_of (option_copied other.entry)) }
     {
-        if self.sequence > at || self.family != family || self.key.as_slice() != key {
+        if self.sequence > at || self.family() != family || self.key() != key {
             return false;
         }
         match other {
@@ -63,37 +66,63 @@ impl Node {
     }
 }
 
-impl Nodes {
-    /// The first node of the list that isn't above the sequence, if there is one. Where the list was made by
-    /// `push_newest`, this takes at most three steps for each binary digit of its length.
-    fn newest_up_to(&self, at: u64) -> Option<&Node>
-        // So the children of a node are newer than what comes after it.
-        requires { Falls self.now }
-        ensures { option_map version_of (option_copied result) ≡ first_up_to at self.now }
-    {
-        let mut rest = self;
-        let mut best: Option<&Node> = None;
-        // The answer is the first node from `rest` on that isn't above the sequence, or else `best`.
-        while let Some(node) = &rest.first {
-            if node.sequence <= at {
-                return Some(node);
-            }
-            match &node.next.first {
-                None => rest = &node.children,
-                Some(next) => {
-                    // The children are newer than the next one. If it is above the sequence, so are they.
-                    if next.sequence > at {
-                        rest = &node.next;
-                    } else {
-                        best = Some(next);
-                        rest = &node.children;
-                    }
+/// The first node of the list from a node on that isn't above the sequence, if there is one. Where the list was made by
+/// `push_newest`, this takes at most three steps for each binary digit of its length.
+fn newest_from(first: Option<&Node>, at: u64) -> Option<&Node>
+    // So the children of a node are newer than what comes after it.
+    requires { Falls (versions_on (option_copied first)) }
+    ensures { option_map version_of (option_copied result)
+        ≡ first_up_to at (versions_on (option_copied first.entry)) }
+{
+    let mut rest = first;
+    let mut best: Option<&Node> = None;
+    // The answer is the first node from `rest` on that isn't above the sequence, or else `best`.
+    while let Some(node) = rest {
+        if node.sequence <= at {
+            return Some(node);
+        }
+        match node.links.next() {
+            None => rest = node.links.children(),
+            Some(next) => {
+                // The children are newer than the next one. If it is above the sequence, so are they.
+                if next.sequence > at {
+                    rest = Some(next);
+                } else {
+                    best = Some(next);
+                    rest = node.links.children();
                 }
             }
         }
-        best
     }
+    best
+}
 
+/// The newest version of a family's key up to a sequence, of one that was found and of those of the list from a node on.
+fn newest_of<'t>(
+    first: Option<&'t Node>,
+    found: Option<&'t Node>,
+    family: u32,
+    key: &[u8],
+    at: u64,
+) -> Option<&'t Node>
+    ensures { option_map version_of (option_copied result)
+        ≡ newest_among (at_key family key.now) at (option_map version_of (option_copied found.entry))
+        (versions_on (option_copied first.entry)) }
+{
+    let mut newest = found;
+    let mut rest = first;
+    // `newest` is that of the version that was found and of those before `rest`.
+    while let Some(node) = rest {
+        if node.is_newer(newest, family, key, at) {
+            newest = Some(node);
+        }
+        newest = newest_of(node.links.children(), newest, family, key, at);
+        rest = node.links.next();
+    }
+    newest
+}
+
+impl Nodes {
     /// The newest version of a family's key up to a sequence, of one that was found and of those of the list.
     pub fn newest_among<'t>(
         &'t self,
@@ -105,54 +134,38 @@ impl Nodes {
         ensures { option_map version_of (option_copied result)
             ≡ newest_among (at_key family key.now) at (option_map version_of (option_copied found.entry)) self.now }
     {
-        let mut newest = found;
-        let mut rest = self;
-        // `newest` is that of the version that was found and of those before `rest`.
-        while let Some(node) = &rest.first {
-            if node.is_newer(newest, family, key, at) {
-                newest = Some(node);
-            }
-            newest = node.children.newest_among(newest, family, key, at);
-            rest = &node.next;
-        }
-        newest
+        newest_of(self.first(), found, family, key, at)
     }
 
-    /// Puts a node in front of a list that is searched. Where the first two trees are equally high, they become its
-    /// children, so that the trees are perfect, and at most as many as the binary digits of the list's length.
+    /// Puts a node in front of a list that is searched.
     fn push_newest(&mut self, mut node: Box<Node>)
         ensures { self.new ≡ version_of node.value ∷ self.old }
     {
-        let (rank, children, next) = mem::replace(self, Nodes::new()).twins();
-        node.rank = rank;
-        node.children = children;
-        node.next = next;
+        node.links = mem::replace(self, Nodes::new()).into_links();
         self.first = Some(node);
     }
 
-    /// The first two trees, if they are equally high, with the rank that a tree over them has, and the others.
-    fn twins(mut self) -> (u32, Nodes, Nodes)
-        ensures { result.1 ++ result.2 ≡ self }
+    /// The links of a node that is put in front of a list that is searched. Where the first two trees are equally high,
+    /// they become its children, so that the trees are perfect, and at most as many as the binary digits of the list's
+    /// length.
+    fn into_links(mut self) -> Links
+        ensures { result.children ++ result.next ≡ self }
     {
         let Some(mut first) = self.first.take() else {
-            return (0, Nodes::new(), Nodes::new());
+            return Links::none();
         };
-        let mut others = mem::replace(&mut first.next, Nodes::new());
+        let mut others = first.links.take_next();
         let Some(mut second) = others.first.take() else {
-            return (0, Nodes::new(), Nodes { first: Some(first) });
+            return Links::to(Nodes::begun_by(first));
         };
-        if first.rank != second.rank {
-            first.next = Nodes {
-                first: Some(second),
-            };
-            return (0, Nodes::new(), Nodes { first: Some(first) });
+        if first.links.rank() != second.links.rank() {
+            first.links.set_next(Nodes::begun_by(second));
+            return Links::to(Nodes::begun_by(first));
         }
-        let rest = mem::replace(&mut second.next, Nodes::new());
-        let rank = first.rank.saturating_add(1);
-        first.next = Nodes {
-            first: Some(second),
-        };
-        (rank, Nodes { first: Some(first) }, rest)
+        let rank = first.links.rank().saturating_add(1);
+        let rest = second.links.take_next();
+        first.links.set_next(Nodes::begun_by(second));
+        Links::of(rank, Nodes::begun_by(first), rest)
     }
 
     /// Inserts a node after those that are newer.

@@ -5,9 +5,10 @@
 
 mod calls;
 mod chain;
+mod content;
 mod gathered;
+mod links;
 mod node;
-mod node_bytes;
 mod nodes;
 mod parts;
 

@@ -2,36 +2,31 @@
 
 ghost use Rattle.std.specs.Prelude.{◌≡◌};
 ghost use Rattle.std.specs.Option.{option_copied};
-ghost use Rattle.table_nodes.specs.Nodes.{own_key, version_of};
+ghost use Rattle.table_nodes.specs.Nodes.{own_key, version_of, versions_at, versions_from, versions_on};
 
-use crate::node_bytes::NodeBytes;
+use crate::content::Content;
+use crate::links::Links;
 use std::alloc::Global;
 use std::marker::Model;
 use std::mem::size_of;
 
 /// A version of a key of a column family: the value that it gets, or none where it is deleted, and the sequence.
 ///
-/// It has in it the links of a list, so that it takes no memory to put it into a list. A key and a value of at most 23
-/// bytes are in the node itself, so that such a version is one allocation.
+/// It has in it the links of a list, so that it takes no memory to put it into a list. A key and a value of at most 32
+/// bytes together are in the node itself, so that such a version is one allocation.
 #[cycle(nodes)]
 #[derive(Drop)]
 pub struct Node {
-    pub(crate) key: NodeBytes,
-    pub(crate) family: u32,
-    /// How high the tree is whose root it is, less one, in a list that is searched. It is for speed alone.
-    pub(crate) rank: u32,
+    pub(crate) content: Content,
     pub(crate) sequence: u64,
-    pub(crate) value: Option<NodeBytes>,
-    /// The nodes right after it, which a search passes at once: two trees or none, in a list that is searched.
-    pub(crate) children: Nodes,
-    /// The nodes after those: in a tree of keys the older versions of its key, in a list the nodes that follow.
-    pub(crate) next: Nodes,
+    /// The nodes after it: in a list those that follow, in a tree of keys the older versions of its key.
+    pub(crate) links: Links,
     /// With what it was made, for the pages of the tree that it is put in. It has no bytes.
     pub(crate) alloc: Global,
 }
 
 // One byte more would cost 16 in an allocator that gives out multiples of 16 and takes eight bytes for itself.
-const _: () = prove!(size_of::<Node>() <= 120);
+const _: () = prove!(size_of::<Node>() <= 72);
 
 /// A list of nodes: those that a batch makes, or the older versions of a key. Contracts see their versions in order.
 ///
@@ -44,7 +39,7 @@ pub struct Nodes {
 }
 
 impl Model for Nodes {
-    ghost use Rattle.std.specs.Prelude.{List, length};
+    ghost use Rattle.std.specs.Prelude.{List, ◌*◌, length};
     ghost use Rattle.table_rule.specs.declared.content.Version.{Version};
     ghost use Rattle.table_nodes.specs.Codes.{versions_code};
 
@@ -56,7 +51,7 @@ impl Model for Nodes {
 
     ghost view = { λ n. versions_from n.first };
 
-    ghost size = { length };
+    ghost size = { λ versions. 2 * length versions };
 
     ghost use Rattle.std.proofs.Common.{arith, length-append};
 
@@ -71,8 +66,38 @@ impl Drop for Nodes {
         loop {
             match self {
                 Nodes { first: None } => return,
-                Nodes { first: Some(node) } => self = Box::into_inner(node).next,
+                Nodes { first: Some(node) } => {
+                    let (_children, next) = Box::into_inner(node).links.into_lists();
+                    self = next;
+                }
             }
+        }
+    }
+}
+
+impl Nodes {
+    /// A list from its first node on. This takes no memory.
+    pub(crate) fn begun_by(node: Box<Node>) -> Nodes
+        ensures { result ≡ versions_at node.value }
+    {
+        Nodes { first: Some(node) }
+    }
+
+    /// The node with which the list begins, if it has one.
+    pub(crate) fn into_first(self) -> Option<Box<Node>>
+        ensures { versions_from result ≡ self }
+    {
+        let Nodes { first } = self;
+        first
+    }
+
+    /// The first node, if there is one.
+    pub(crate) fn first(&self) -> Option<&Node>
+        ensures { versions_on (option_copied result) ≡ self.now }
+    {
+        match &self.first {
+            Some(node) => Some(node),
+            None => None,
         }
     }
 }
@@ -82,14 +107,14 @@ impl Node {
     pub fn family(&self) -> u32
         ensures { result ≡ (own_key self.now).family }
     {
-        self.family
+        self.content.family()
     }
 
     /// Its key.
     pub fn key(&self) -> &[u8]
         ensures { result.now ≡ (own_key self.now).bytes }
     {
-        self.key.as_slice()
+        self.content.key()
     }
 
     /// Its sequence.
@@ -103,10 +128,7 @@ impl Node {
     pub fn value(&self) -> Option<&[u8]>
         ensures { option_copied result ≡ (version_of self.now).value }
     {
-        match &self.value {
-            Some(value) => Some(value.as_slice()),
-            None => None,
-        }
+        self.content.value()
     }
 
     /// With what it was made.

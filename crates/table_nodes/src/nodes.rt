@@ -3,12 +3,13 @@
 ghost use Rattle.std.specs.Prelude.{◌≡◌, ◌==◌, List, ◌∷◌, ◌++◌, ◌+◌, ◌<◌, ◌≤◌, ◌^◌, [], length, reverse, Some, IfOk, MatchOption};
 ghost use Rattle.std.specs.Option.{option_copied, option_map, option_to_list};
 ghost use Rattle.log_batch.specs.View.{record_of};
-ghost use Rattle.table_nodes.specs.Nodes.{at_key, version_of};
+ghost use Rattle.table_nodes.specs.Nodes.{at_key, version_of, versions_on};
 ghost use Rattle.table_nodes.specs.Batches.{new_versions, number_from};
 ghost use Rattle.table_rule.specs.declared.content.Version.{Version};
 
+use crate::content::Content;
+use crate::links::Links;
 use crate::node::{Node, Nodes};
-use crate::node_bytes::NodeBytes;
 use log_batch::{Batch, RecordView};
 use model_base::NoMemory;
 use std::alloc::Global;
@@ -55,25 +56,22 @@ impl Nodes {
             (λ node. self.old ≡ version_of node.value ∷ self.new) }
     {
         let mut node = self.first.take()?;
-        // The list is empty here, and takes over the nodes after it. To put new ones in place of old ones would look
-        // for nodes to drop, though there are none.
-        mem::swap(self, &mut node.next);
-        if !node.children.is_empty() {
-            node.children.append(self);
-            mem::swap(self, &mut node.children);
-        }
+        node.links.move_to(self);
         Some(node)
     }
 
     /// Moves other nodes to the end of these. It is for a node's children, which are two trees, so that it takes few
     /// steps.
-    fn append(&mut self, other: &mut Nodes)
-        ensures all { self.new ≡ self.old ++ other.old }
-        ensures none { other.new ≡ [] }
+    pub(crate) fn append(&mut self, other: Nodes)
+        ensures { self.new ≡ self.old ++ other }
     {
         match &mut self.first {
-            None => mem::swap(self, other),
-            Some(node) => node.next.append(other),
+            None => self.first = other.into_first(),
+            Some(node) => {
+                let mut next = node.links.take_next();
+                next.append(other);
+                node.links.set_next(next);
+            }
         }
     }
 
@@ -83,7 +81,7 @@ impl Nodes {
             × (self.now ≡ v ∷ more) × (v.key ≡ at_key key.0 key.1.now)) }
     {
         match &self.first {
-            Some(node) => Some((node.family, node.key.as_slice())),
+            Some(node) => Some((node.family(), node.key())),
             None => None,
         }
     }
@@ -93,14 +91,7 @@ impl Nodes {
         requires { length self.now < 2 ^ 64 }
         ensures { result ≡ length self.now }
     {
-        let mut count = 0;
-        let mut rest = self;
-        // `count` is how many nodes come before `rest`.
-        while let Some(node) = &rest.first {
-            count += 1 + node.children.len();
-            rest = &node.next;
-        }
-        count
+        count_from(self.first())
     }
 
     /// Puts other nodes before these, in reverse order. This takes no memory.
@@ -124,10 +115,7 @@ impl Nodes {
     pub fn push_front(&mut self, mut node: Box<Node>)
         ensures { self.new ≡ version_of node.value ∷ self.old }
     {
-        if !node.children.is_empty() {
-            node.children = Nodes::new();
-        }
-        mem::swap(&mut node.next, self);
+        node.links.replace_by(self);
         // What the node had after it is dropped here.
         self.first = Some(node);
     }
@@ -158,6 +146,21 @@ impl Nodes {
     }
 }
 
+/// How many nodes there are from one on.
+fn count_from(first: Option<&Node>) -> u64
+    requires { length (versions_on (option_copied first)) < 2 ^ 64 }
+    ensures { result ≡ length (versions_on (option_copied first.entry)) }
+{
+    let mut count = 0;
+    let mut rest = first;
+    // `count` is how many nodes come before `rest`.
+    while let Some(node) = rest {
+        count += 1 + count_from(node.links.children());
+        rest = node.links.next();
+    }
+    count
+}
+
 impl Node {
     /// A node of a family's key, with its value, or none where it is deleted, and with the sequence 0.
     pub(crate) fn new(
@@ -169,20 +172,12 @@ impl Node {
         ensures { IfOk result (λ node. version_of node.value
             ≡ record { key = at_key family key.now; value = option_copied value.entry; sequence = 0 }) }
     {
-        let value = match value {
-            Some(value) => Some(NodeBytes::copy(alloc, value)?),
-            None => None,
-        };
         Ok(Box::new(
             alloc,
             Node {
-                key: NodeBytes::copy(alloc, key)?,
-                family,
-                rank: 0,
+                content: Content::copy(alloc, family, key, value)?,
                 sequence: 0,
-                value,
-                children: Nodes::new(),
-                next: Nodes::new(),
+                links: Links::none(),
                 alloc,
             },
         )?)

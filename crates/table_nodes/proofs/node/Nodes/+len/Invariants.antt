@@ -1,9 +1,0 @@
--- The nodes that are counted, and those that are left, are all of them.
-use Rattle.std.proofs.Common.{◌≡◌, ◌+◌, length}
-use Rattle.table_nodes.proofs.node.Nodes.+len.Given as goal
-
-abbrev pub invariant-loop-rest : goal.invariant-loop-rest
-invariant-loop-rest l = l.count + length l.rest ≡ length l.self
-
-abbrev pub decreases-loop-rest : goal.decreases-loop-rest
-decreases-loop-rest l = length l.rest
