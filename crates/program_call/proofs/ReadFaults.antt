@@ -37,6 +37,7 @@ one_shown : (r : Reply) (c : calls.Call) → ShowsReply r c → is_read_fault r 
 one_shown (reply.Accepted run) c shows = ap (λ x. any (read_fault_of x)) (sym shows.1)
 one_shown (reply.Refused why) c shows = ap (λ x. any (read_fault_of x)) (sym shows)
 one_shown (reply.Found at v) c shows = ap (λ x. any (read_fault_of x)) (sym shows)
+one_shown (reply.Nothing at) c shows = ap (λ x. any (read_fault_of x)) (sym shows)
 one_shown (reply.FoundEach at vs) c shows = ap (λ x. any (read_fault_of x)) (sym shows)
 one_shown (reply.Rows at rows) c shows = ap (λ x. any (read_fault_of x)) (sym shows)
 one_shown (reply.Updates at records) c shows = ap (λ x. any (read_fault_of x)) (sym shows)

@@ -58,7 +58,7 @@ use std::thread::Threads;
 /// | `--logs` | `run`, `recover` | 1 to 16 | one log | how many logs; not with `--number` or `--resume` |
 /// | `--mode` | `run`, `recover` | `point`, `tail`, `absolute` | `point` | which ends the log's recovery accepts |
 /// | `--number` | `run`, `recover` | 1 to 4294967295 | none | the number that the log's headers have |
-/// | `--pipelined` | `run`, `gen`, `replay` | no value | a single stage | the log is handed on before a group is inserted |
+/// | `--pipelined` | `run`, `gen`, `replay` | no value | a single stage | the log is handed on before an insertion |
 /// | `--resume` | `run` | no value | the log begins anew | the log goes on after what it recovers |
 /// | `--shards` | `run`, `gen` | 1 to 64 | 16 | with `--table shards`, how many shards the table has |
 /// | `--table` | `run`, `gen` | `one`, `shards` | `one` | a tree under one lock, or a tree and a lock for each shard |

@@ -58,7 +58,7 @@ pub fn refuse<K: Sink>(sink: &mut K, text: &[u8])
     let _ = write_all(sink, text);
 }
 
-/// The status of a refusal, by how its text was printed. It stays that of the refusal, even if the sink fails at the text.
+/// The status of a refusal, by how its text was printed. It stays that of the refusal, even if the sink fails there.
 fn refused(printed: Result<(), PrintError>, status: Status) -> Status
     ensures { result ≡ refusal_status status printed }
 {

@@ -9,7 +9,7 @@ use Rattle.log_batch.specs.Contents.{Contents}
 use Rattle.model_base.specs.Calls as calls
 use Rattle.model_base.specs.Text.{line, reply_text, client_text, entry_text, history_text, outcome_text}
 use Rattle.run_outcome.specs.declared.reply.Reply.{Reply}
-use Rattle.run_outcome.specs.declared.reply.Reply.TheVariants.{Accepted, Refused, Found, FoundEach, Rows, Updates, ReadFault, Done, Held, NotHeld, NoMemory}
+use Rattle.run_outcome.specs.declared.reply.Reply.TheVariants.{Accepted, Refused, Found, Nothing, FoundEach, Rows, Updates, ReadFault, Done, Held, NotHeld, NoMemory}
 use Rattle.run_outcome.specs.declared.history_entry.HistoryEntry.{HistoryEntry}
 use Rattle.run_outcome.specs.declared.outcome.Outcome.{Outcome}
 use Rattle.run_outcome.specs.Shows.{ShowsReply, ShowsReplies, with_replies, ShowsEntry, ShowsOutcome}
@@ -19,6 +19,7 @@ reply_shown : (r : Reply) (c : calls.Call) → ShowsReply r c → reply_line r �
 reply_shown (Accepted run) c e = sym (ap reply_text e.1)
 reply_shown (Refused why) c e = sym (ap reply_text e)
 reply_shown (Found at value) c e = sym (ap reply_text e)
+reply_shown (Nothing at) c e = sym (ap reply_text e)
 reply_shown (FoundEach at values) c e = sym (ap reply_text e)
 reply_shown (Rows at rows) c e = sym (ap reply_text e)
 reply_shown (Updates at records) c e = sym (ap reply_text e)

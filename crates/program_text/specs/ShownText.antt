@@ -1,5 +1,5 @@
 -- The text of what a run's values show, part by part.
-use Rattle.std.specs.Prelude.{ℕ, List, [], ◌∷◌, ◌++◌, ◌==◌, if◌then◌else◌, length, flat_map, codes, decimal, Vec}
+use Rattle.std.specs.Prelude.{ℕ, List, [], ◌∷◌, ◌++◌, ◌==◌, if◌then◌else◌, length, flat_map, codes, decimal, Vec, Some, None}
 use Rattle.std.specs.List.{enumerate_from}
 use Rattle.std.specs.declared.alloc.Global.{Global}
 use Rattle.model_base.specs.Batch.{batch}
@@ -7,7 +7,7 @@ use Rattle.model_base.specs.Calls as calls
 use Rattle.model_base.specs.declared.log.EndReason.{EndReason}
 use Rattle.model_base.specs.Text.{line, hex, reply_text, flag_word, key_words, state_text, log_text, hex_word, end_words}
 use Rattle.run_outcome.specs.declared.reply.Reply.{Reply}
-use Rattle.run_outcome.specs.declared.reply.Reply.TheVariants.{Accepted, Refused, Found, FoundEach, Rows, Updates, ReadFault, Done, Held, NotHeld, NoMemory}
+use Rattle.run_outcome.specs.declared.reply.Reply.TheVariants.{Accepted, Refused, Found, Nothing, FoundEach, Rows, Updates, ReadFault, Done, Held, NotHeld, NoMemory}
 use Rattle.run_outcome.specs.declared.history_entry.HistoryEntry.{HistoryEntry}
 use Rattle.run_outcome.specs.declared.outcome.Outcome.{Outcome}
 use Rattle.log_recovery.specs.declared.kept.GroupNote.{GroupNote}
@@ -42,7 +42,8 @@ pair_words p = p.0 ∷ p.1 ∷ []
 abbrev pub shown_reply : Reply → calls.Reply
 shown_reply (Accepted run) = calls.accepted run.first run.last []
 shown_reply (Refused why) = calls.refused why
-shown_reply (Found at value) = calls.found at value
+shown_reply (Found at value) = calls.found at (Some value)
+shown_reply (Nothing at) = calls.found at None
 shown_reply (FoundEach at values) = calls.found_each at values
 shown_reply (Rows at rows) = calls.rows at rows
 shown_reply (Updates at records) = calls.updates_found at records

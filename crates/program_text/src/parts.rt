@@ -52,11 +52,8 @@ fn put_reply<K: Sink>(printer: &mut Printer, sink: &mut K, reply: &Reply)
     match reply {
         Reply::Accepted(run) => put_line(printer, sink, b"ok", &[run.first, run.last]),
         Reply::Refused(why) => put_refusal(printer, sink, *why),
-        Reply::Found {
-            at,
-            value: Some(value),
-        } => put_value(printer, sink, *at, value.as_slice()),
-        Reply::Found { at, value: None } => put_line(printer, sink, b"nil", &[*at]),
+        Reply::Found { at, value } => put_value(printer, sink, *at, value.as_slice()),
+        Reply::Nothing { at } => put_line(printer, sink, b"nil", &[*at]),
         Reply::FoundEach { at, values } => put_found_each(printer, sink, *at, values),
         Reply::Rows { at, rows } => put_rows(printer, sink, *at, rows),
         Reply::Updates { at, records } => put_updates(printer, sink, *at, records),

@@ -25,6 +25,7 @@ use Rattle.model_core.specs.Replies.{AreRight, AreRepliesOf, IsAnswered, IsHandl
 use Rattle.model_core_laws.proofs.Histories.{history_rises, history_front}
 use Rattle.model_core_laws.proofs.ReadLog.{same_given}
 use Rattle.run_outcome.specs.declared.reply.Reply.{Reply}
+use Rattle.run_outcome.proofs.Replies.{shows_found}
 use Rattle.run_scripts.specs.Scripts.{IsClientsCommand}
 use Rattle.replay_plans.specs.declared.plan.ClientPlan.{ClientPlan}
 use Rattle.replay_core.specs.declared.writer.CoreReply.{CoreReply}
@@ -132,8 +133,11 @@ one_shown s (commit how) xs command (calls.accepted a b records) cs [] is are re
 one_shown s (commit how) xs command (calls.refused why) cs (Refused w ∷ ts) is are rest = let e : w ≡ why = are.0 in (ap calls.refused (sym e), rest ts are.1)
 one_shown s (commit how) xs command (calls.refused why) cs (t ∷ ts) is are rest = absurd are.0
 one_shown s (commit how) xs command (calls.refused why) cs [] is are rest = absurd are
-one_shown s (get key) xs command (calls.found at v) cs (ReadAt n ∷ ts) is are rest =
-    (subst (λ m. calls.found at v ≡ calls.found m (value_at (map_up_to m s.entries) key)) (sym are.0) (ap (calls.found at) is), rest ts are.1)
+one_shown s (get key) xs command (calls.found at v) cs (ReadAt n ∷ ts) is are rest = (
+  shows_found n (value_at (map_up_to n s.entries) key) (record { command = command; reply = calls.found at v })
+      (subst (λ m. calls.found at v ≡ calls.found m (value_at (map_up_to m s.entries) key)) (sym are.0) (ap (calls.found at) is)),
+  rest ts are.1,
+)
 one_shown s (get key) xs command (calls.found at v) cs (t ∷ ts) is are rest = absurd are.0
 one_shown s (get key) xs command (calls.found at v) cs [] is are rest = absurd are
 one_shown s (many keys) xs command (calls.found_each at vs) cs (ReadAt n ∷ ts) is are rest =

@@ -11,6 +11,7 @@ use Rattle.model_core.specs.CoreLaw.{IsCore}
 use Rattle.model_base.specs.Calls.{Command, commit, get, many, scan, updates}
 use Rattle.run_outcome.specs.declared.reply.Reply.{Reply}
 use Rattle.run_outcome.specs.declared.reply.Reply.TheVariants as reply
+use Rattle.run_outcome.specs.Shows.{found_reply}
 use Rattle.run_outcome.specs.declared.history_entry.HistoryEntry.{HistoryEntry}
 use Rattle.log_batch.specs.Contents.{Contents}
 use Rattle.replay_plans.specs.declared.plan.ClientPlan.{ClientPlan}
@@ -33,7 +34,7 @@ InEachShown core is = (o : machine.Options) (s : machine.State) → IsCore o s �
 -- a read is answered from the map at its sequence, also a read of several keys, and a read of the log from the records
 -- of its groups; no other command reads
 abbrev pub read_by : machine.State → ℕ → Command → Option Reply
-read_by s at (get key) = Some (reply.Found at (value_at (map_up_to at s.entries) key))
+read_by s at (get key) = Some (found_reply at (value_at (map_up_to at s.entries) key))
 read_by s at (many keys) = Some (reply.FoundEach at (map (value_at (map_up_to at s.entries)) keys))
 read_by s at (scan family lo hi) = Some (reply.Rows at (rows_within family lo hi (map_up_to at s.entries)))
 read_by s at (updates n) = Some (reply.Updates at (since n at (records_in [] (machine.log_groups s))))

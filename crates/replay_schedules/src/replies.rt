@@ -1,7 +1,6 @@
 //! The replies that the clients of a script got on the core.
 
 ghost use Rattle.std.specs.Prelude.{◌≡◌, ◌++◌, ◌≤◌, length, drop, slice_get, IfOk, OnOk};
-ghost use Rattle.base_bytes.specs.Answers.{found_value};
 ghost use Rattle.run_command_list.specs.Views.{command_of};
 ghost use Rattle.replay_core.specs.Shown.{plans_in};
 ghost use Rattle.replay_schedules.specs.Maps.{IsMapOf};
@@ -9,7 +8,6 @@ ghost use Rattle.replay_schedules.specs.Replaying.{InEachShown, read_by, reply_b
 
 use crate::reading::MapUpTo;
 use crate::records::records_since;
-use base_bytes::{Bytes, Found};
 use model_base::{MAX_CLIENTS, NoMemory};
 use replay_core::{CoreReply, State};
 use replay_plans::ClientPlan;
@@ -149,10 +147,9 @@ fn read_of(
         → IfOk result (λ reply. reply ≡ read_by s at (command_of command.now))) }
 {
     match command {
-        CommandView::Get { family, key } => Ok(Some(Reply::Found {
-            at,
-            value: found(reads.value(core, *family, key, at)?),
-        })),
+        CommandView::Get { family, key } => {
+            Ok(Some(Reply::found(at, reads.value(core, *family, key, at)?)))
+        }
         CommandView::Many { keys } => Ok(Some(Reply::FoundEach {
             at,
             values: reads.values(core, keys.again(), at)?,
@@ -166,14 +163,5 @@ fn read_of(
             records: records_since(alloc, core, *since, at)?,
         })),
         _ => Ok(None),
-    }
-}
-
-fn found(answer: Found) -> Option<Bytes>
-    ensures { result ≡ found_value answer }
-{
-    match answer {
-        Found::Value(bytes) => Some(bytes),
-        Found::Absent => None,
     }
 }

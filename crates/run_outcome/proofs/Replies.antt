@@ -1,18 +1,25 @@
 -- The calls that have replies, and one more call.
 use Rattle.std.specs.List.{AllZip}
-use Rattle.std.proofs.Common.{◌≡◌, Bool, true, false, not, cond, List, [], ◌∷◌, ◌++◌, ap, sym, ◌∙◌, subst}
+use Rattle.std.specs.Prelude.{Option, Some, None}
+use Rattle.std.proofs.Common.{◌≡◌, ℕ, Bool, true, false, not, cond, List, [], ◌∷◌, ◌++◌, ap, sym, ◌∙◌, subst}
 use Rattle.std.proofs.lemmas.List.{append-nil}
 use Rattle.std.proofs.lemmas.List.Elements.{filter-append}
 use Rattle.model_base.specs.Calls as calls
 use Rattle.run_outcome.specs.declared.reply.Reply.{Reply}
-use Rattle.run_outcome.specs.declared.reply.Reply.TheVariants.{Accepted, Refused, Found, FoundEach, Rows, Updates, ReadFault, Done, Held, NotHeld, NoMemory}
-use Rattle.run_outcome.specs.Shows.{ShowsReply, ShowsReplies, is_quiet, with_replies}
+use Rattle.run_outcome.specs.declared.reply.Reply.TheVariants.{Accepted, Refused, Found, Nothing, FoundEach, Rows, Updates, ReadFault, Done, Held, NotHeld, NoMemory}
+use Rattle.run_outcome.specs.Shows.{ShowsReply, ShowsReplies, found_reply, is_quiet, with_replies}
+
+-- what a read of a key found is shown by its reply
+pub shows_found : (at : ℕ) (value : Option (List ℕ)) (c : calls.Call) → c.reply ≡ calls.found at value → ShowsReply (found_reply at value) c
+shows_found at None c is = is
+shows_found at (Some value) c is = is
 
 -- what a value shows is a reply
 pub has_reply : (r : Reply) (c : calls.Call) → ShowsReply r c → is_quiet c.reply ≡ false
 has_reply (Accepted run) c shows = ap is_quiet shows.1
 has_reply (Refused why) c shows = ap is_quiet shows
 has_reply (Found at value) c shows = ap is_quiet shows
+has_reply (Nothing at) c shows = ap is_quiet shows
 has_reply (FoundEach at values) c shows = ap is_quiet shows
 has_reply (Rows at rows) c shows = ap is_quiet shows
 has_reply (Updates at records) c shows = ap is_quiet shows

@@ -1,6 +1,6 @@
 -- The replies, the entries and the outcome of the model that the code's values show. The records of an accepted batch
 -- are in no value of a reply.
-use Rattle.std.specs.Prelude.{◌≡◌, Bool, true, false, not, List, [], ◌∷◌, ◌++◌, filter}
+use Rattle.std.specs.Prelude.{◌≡◌, ℕ, Bool, true, false, not, List, [], ◌∷◌, ◌++◌, Option, Some, None, filter}
 use Rattle.std.specs.List.{AllZip, list_any}
 use Rattle.model_base.specs.Batch.{Record}
 use Rattle.model_base.specs.Map.{Pairs}
@@ -8,7 +8,7 @@ use Rattle.model_base.specs.History as history
 use Rattle.model_base.specs.Calls as calls
 use Rattle.log_batch.specs.Contents.{Contents}
 use Rattle.run_outcome.specs.declared.reply.Reply.{Reply}
-use Rattle.run_outcome.specs.declared.reply.Reply.TheVariants.{Accepted, Refused, Found, FoundEach, Rows, Updates, ReadFault, Done, Held, NotHeld, NoMemory}
+use Rattle.run_outcome.specs.declared.reply.Reply.TheVariants.{Accepted, Refused, Found, Nothing, FoundEach, Rows, Updates, ReadFault, Done, Held, NotHeld, NoMemory}
 use Rattle.run_outcome.specs.declared.history_entry.HistoryEntry.{HistoryEntry}
 use Rattle.run_outcome.specs.declared.outcome.Outcome.{Outcome}
 
@@ -17,6 +17,7 @@ lacks_memory NoMemory = true
 lacks_memory (Accepted run) = false
 lacks_memory (Refused why) = false
 lacks_memory (Found at value) = false
+lacks_memory (Nothing at) = false
 lacks_memory (FoundEach at values) = false
 lacks_memory (Rows at rows) = false
 lacks_memory (Updates at records) = false
@@ -25,11 +26,17 @@ lacks_memory Done = false
 lacks_memory Held = false
 lacks_memory NotHeld = false
 
+-- the reply to a read of a key at a sequence
+abbrev pub found_reply : ℕ → Option (List ℕ) → Reply
+found_reply at None = Nothing at
+found_reply at (Some value) = Found at value
+
 -- the value shows the call's reply, whatever its command; a command that adds to a batch or empties it has none
 abbrev pub ShowsReply : Reply → calls.Call → Type 0
 ShowsReply (Accepted run) c = (records : List Record) × (c.reply ≡ calls.accepted run.first run.last records)
 ShowsReply (Refused why) c = c.reply ≡ calls.refused why
-ShowsReply (Found at value) c = c.reply ≡ calls.found at value
+ShowsReply (Found at value) c = c.reply ≡ calls.found at (Some value)
+ShowsReply (Nothing at) c = c.reply ≡ calls.found at None
 ShowsReply (FoundEach at values) c = c.reply ≡ calls.found_each at values
 ShowsReply (Rows at rows) c = c.reply ≡ calls.rows at rows
 ShowsReply (Updates at records) c = c.reply ≡ calls.updates_found at records
@@ -76,6 +83,7 @@ is_read_fault (ReadFault count) = true
 is_read_fault (Accepted run) = false
 is_read_fault (Refused why) = false
 is_read_fault (Found at value) = false
+is_read_fault (Nothing at) = false
 is_read_fault (FoundEach at values) = false
 is_read_fault (Rows at rows) = false
 is_read_fault (Updates at records) = false

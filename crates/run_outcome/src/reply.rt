@@ -1,8 +1,13 @@
 //! What a client gets as replies.
 
-use base_bytes::{Bytes, FoundList, PairList, RecordList};
+ghost use Rattle.std.specs.Prelude.{◌≡◌};
+ghost use Rattle.base_bytes.specs.Answers.{found_value};
+ghost use Rattle.run_outcome.specs.Shows.{found_reply};
+
+use base_bytes::{Bytes, Found, FoundList, PairList, RecordList};
 use log_batch::Run;
 use model_base::Refusal;
+use std::mem::size_of;
 
 /// The reply to a command. A command that adds to a batch or empties it has none.
 #[derive(Drop)]
@@ -11,8 +16,10 @@ pub enum Reply {
     Accepted(Run),
     /// The batch was not written.
     Refused(Refusal),
-    /// What was read, and at which sequence.
-    Found { at: u64, value: Option<Bytes> },
+    /// The value that was read, and at which sequence.
+    Found { at: u64, value: Bytes },
+    /// No value was read at this sequence. An optional value above would take eight bytes more.
+    Nothing { at: u64 },
     /// What was read of several keys at one sequence, in the order in which the keys were asked for.
     FoundEach { at: u64, values: FoundList },
     /// The keys of a range with their values at a sequence, in the byte order of the keys.
@@ -31,9 +38,21 @@ pub enum Reply {
     NoMemory,
 }
 
+// The room for all replies of a run is made before its first call, so that eight bytes more would be taken for each.
+const _: () = prove!(size_of::<Reply>() <= 40);
+
 impl Reply {
-    ghost use Rattle.std.specs.Prelude.{◌≡◌};
     ghost use Rattle.run_outcome.specs.Shows.{is_read_fault, lacks_memory};
+
+    /// The reply to a read of a key at a sequence.
+    pub fn found(at: u64, found: Found) -> Reply
+        ensures { result ≡ found_reply at (found_value found) }
+    {
+        match found {
+            Found::Value(value) => Reply::Found { at, value },
+            Found::Absent => Reply::Nothing { at },
+        }
+    }
 
     /// Whether the call found no memory.
     pub fn lacks_memory(&self) -> bool

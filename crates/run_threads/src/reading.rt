@@ -4,10 +4,8 @@ ghost use Rattle.std.specs.Prelude.{◌≡◌, List};
 ghost use Rattle.model_base.specs.Batch.{Record};
 ghost use Rattle.model_base.specs.Map.{key_at};
 ghost use Rattle.model_base.specs.Calls as calls;
-ghost use Rattle.base_bytes.specs.Answers.{found_value};
 ghost use Rattle.run_threads.specs.Answers.{Answers};
 
-use base_bytes::{Bytes, Found};
 use engine_calls::{Engine, Since, SinceRefused};
 use model_accounts::{
     earlier_sights, reads_are_steps, reads_of_the_log_are_steps, refused_reads_are_steps,
@@ -36,24 +34,11 @@ pub fn get<E: Engine, R: Wait + rt::Clock>(
     reads_are_steps();
     refused_reads_are_steps();
     match engine.get_in(rt, client, family, key) {
-        Ok(read) => Ok(Some(Reply::Found {
-            at: read.at,
-            value: value_of(read.value),
-        })),
+        Ok(read) => Ok(Some(Reply::found(read.at, read.value))),
         Err(ReadRefused::NoMemory) => Err(NoMemory),
         Err(ReadRefused::NoFamily { family }) => Ok(Some(Reply::Refused(Refusal::NoFamily {
             family,
         }))),
-    }
-}
-
-/// The value that was found, if one was.
-fn value_of(found: Found) -> Option<Bytes>
-    ensures { result ≡ found_value found }
-{
-    match found {
-        Found::Absent => None,
-        Found::Value(value) => Some(value),
     }
 }
 

@@ -23,7 +23,7 @@ fn one_fault(alloc: Global) -> Result<Outcome<FamilyMap>, NoMemory> {
     records.push(Bytes::copy(alloc, b"\x01\xab")?)?;
     let replies = vec![in alloc;
         Reply::Refused(Refusal::LogFault { count: 1 }),
-        Reply::Found { at: 0, value: None },
+        Reply::Nothing { at: 0 },
         Reply::Refused(Refusal::NoFamily { family: 7 }),
         Reply::Updates { at: 0, records },
         Reply::ReadFault { count: 2 },

@@ -1,9 +1,12 @@
-use Rattle.std.proofs.Common.{◌∷◌, [], refl, ap, sym}
+use Rattle.std.proofs.Common.{◌∷◌, [], refl, sym, subst}
 use Rattle.model_base.specs.declared.write.Refusal.TheVariants.{NoFamily}
 use Rattle.model_base.specs.Map.{key_at}
 use Rattle.model_base.specs.Calls as calls
 use Rattle.base_bytes.specs.Answers.{found_value}
 use Rattle.base_bytes.specs.declared.answers.Read.{Read}
+use Rattle.run_outcome.specs.Shows.{ShowsReply}
+use Rattle.run_outcome.specs.declared.reply.Reply.{Reply}
+use Rattle.run_outcome.proofs.Replies.{shows_found}
 use Rattle.run_threads.proofs.ReadFamilies.{all_there, there_but_no_memory, first_is_missing}
 use Rattle.run_threads.proofs.reading.get.Goals as goal
 
@@ -16,7 +19,8 @@ returns-in-Ok-clause-answers g c = λ pending.
     let said = c.in-Ok.ensures in
     record {
       reply = calls.found read.at (found_value read.value);
-      shows = ap (λ value. calls.found read.at value) (sym c.value_of.ensures);
+      shows = subst (λ (r : Reply). ShowsReply r (record { command = calls.get (key_at c.args.family c.args.key.now); reply = calls.found read.at (found_value read.value) }))
+          (sym c.found.ensures) (shows_found read.at (found_value read.value) _ refl);
       goes = c.reads_are_steps.ensures.get settings v pending (key_at c.args.family c.args.key.now) read.at (found_value read.value) w
           (all_there settings (c.args.family ∷ []) read said.family) said.keeps said.ok;
     }
