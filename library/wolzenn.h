@@ -171,8 +171,8 @@ typedef enum wz_why wz_why;
 typedef enum wz_mode wz_mode;
 typedef enum wz_kind wz_kind;
 typedef enum wz_tag wz_tag;
-typedef char wz_enums_have_four_bytes[sizeof(wz_code) == 4 && sizeof(wz_why) == 4 && sizeof(wz_kind) == 4 &&
-                                      sizeof(wz_tag) == 4 ? 1 : -1];
+typedef char wz_enums_have_four_bytes[sizeof(wz_code) == 4 && sizeof(wz_why) == 4 && sizeof(wz_mode) == 4 &&
+                                      sizeof(wz_kind) == 4 && sizeof(wz_tag) == 4 ? 1 : -1];
 
 /* A reader of a log's records, a scan of them, what a log recovers, and a batch that is built. */
 typedef struct wz_reader { wz_handle handle; } wz_reader;

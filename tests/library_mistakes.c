@@ -1,5 +1,5 @@
-// Mistakes that a compiler refuses, each by its number: for `library` in this folder, which compiles this file with each
-// of them, in C and in C++. With the number 0 it compiles.
+// Mistakes that a compiler refuses, each by its number: for `library` in this folder, which compiles this file with
+// each of them, in C and in C++. With the number 0 it compiles.
 
 #include "wolzenn.h"
 

@@ -32,6 +32,7 @@
 #include <rocksdb/write_batch.h>
 
 #include <algorithm>
+#include <cctype>
 #include <cstdlib>
 #include <filesystem>
 #include <iostream>
@@ -98,6 +99,24 @@ static void tell_rows(Families& families, size_t family, const std::string& low,
     std::cout << "scan " << families.db->GetLatestSequenceNumber() << " " << count << found << "\n";
 }
 
+// The batches of the log that `GetUpdatesSince` gives. It ends at a gap in the sequences, as a batch leaves one that stays
+// out of the log: then what comes after the gap is asked for. A sequence that isn't there yet is refused.
+static void tell_updates(rocksdb::DB& db, rocksdb::SequenceNumber since) {
+    std::unique_ptr<rocksdb::TransactionLogIterator> updates;
+    std::string found;
+    int count = 0;
+    while (db.GetUpdatesSince(since, &updates).ok() && updates->Valid()) {
+        for (; updates->Valid(); updates->Next()) {
+            auto batch = updates->GetBatch();
+            found += " " + rocksdb::Slice(batch.writeBatchPtr->Data()).ToString(true);
+            since = batch.sequence + batch.writeBatchPtr->Count();
+            count++;
+        }
+    }
+    std::transform(found.begin(), found.end(), found.begin(), [](unsigned char digit) { return std::tolower(digit); });
+    std::cout << "updates " << db.GetLatestSequenceNumber() << " " << count << found << "\n";
+}
+
 static void run_script(Families& families) {
     rocksdb::DB& db = *families.db;
     rocksdb::WriteBatch batch;
@@ -138,6 +157,7 @@ static void run_script(Families& families) {
             lacks_family = false;
         }
         if (command == "scan") tell_rows(families, family, key, value);
+        if (command == "updates") tell_updates(db, std::stoull(key));
         if (command == "get") {
             std::string found;
             bool there = db.Get(rocksdb::ReadOptions(), own, key, &found).ok();

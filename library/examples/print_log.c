@@ -3,8 +3,8 @@
    print_log LOG [NUMBER]
 
    NUMBER is the log's own, where its fragments have one. Operations of every kind are printed, with their strings in
-   hexadecimal, `-` for none, after the number of the column family that they name. The last line says where reading ended, and for which
-   of the reasons of docs/RECOVERY.md, with its two numbers. */
+   hexadecimal, `-` for none, after the number of the column family that they name. The last line says where reading
+   ended, and for which of the reasons of docs/RECOVERY.md, with its two numbers. */
 #include "wolzenn.h"
 
 #include <inttypes.h>

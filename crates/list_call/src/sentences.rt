@@ -83,7 +83,7 @@ fn say_end<R: ReadAt, E: Sink>(
 {
     match why {
         EndReason::Clean => {}
-        EndReason::Broken(Damage::OldLog(other)) => say_old_log(errors, number, at, other),
+        EndReason::Broken(Damage::OldLog(other)) => say_old_log(file, errors, number, at, other),
         _ => {
             say_first_number_at(file, errors, number, at);
             put(errors, "wzlog: reading ended at ");
@@ -92,16 +92,22 @@ fn say_end<R: ReadAt, E: Sink>(
             put(errors, meaning_of(why));
             put(errors, "\n");
             say_older(errors, number, why);
-            put(errors, "wzlog: docs/RECOVERY.md, heading `");
-            put(errors, heading_of(why));
-            put(errors, "`, says what to do\n");
+            say_to_do(errors, why);
             say_around(file, errors, at);
         }
     }
 }
 
-/// Says what it means that an older log's fragment follows, or a newer one's.
-fn say_old_log<E: Sink>(errors: &mut E, number: Option<u32>, at: u64, other: u32) {
+/// Says what it means that a newer log's fragment follows. An older one's is how a log ends that was written over it.
+fn say_old_log<R: ReadAt, E: Sink>(
+    file: &mut R,
+    errors: &mut E,
+    number: Option<u32>,
+    at: u64,
+    other: u32,
+)
+    ensures file { R.only_reads file.old file.new }
+{
     if number.is_some_and(|number| other > number) {
         put(errors, "wzlog: the fragment at ");
         put_number(errors, at);
@@ -111,6 +117,8 @@ fn say_old_log<E: Sink>(errors: &mut E, number: Option<u32>, at: u64, other: u32
             errors,
             ": the number is wrong, or another file has this name\n",
         );
+        say_to_do(errors, EndReason::Broken(Damage::OldLog(other)));
+        say_around(file, errors, at);
     }
 }
 
@@ -127,6 +135,15 @@ fn say_older<E: Sink>(errors: &mut E, number: Option<u32>, why: EndReason) {
             "or the log ends there, if it was written over an older one, whose bytes follow",
         );
     }
+}
+
+/// Says what to do at an end, and where more is said of it.
+fn say_to_do<E: Sink>(errors: &mut E, why: EndReason) {
+    put(errors, "wzlog: to do: ");
+    put(errors, to_do(why));
+    put(errors, "\nwzlog: docs/RECOVERY.md, heading `");
+    put(errors, heading_of(why));
+    put(errors, "`, says more\n");
 }
 
 /// What an end may mean.
@@ -173,6 +190,48 @@ fn meaning_of_damage(damage: Damage) -> &'static str {
         Damage::BadTrailer =>
             "bytes that aren't zero at the end of a block: damage, or a torn write",
         Damage::OldLog(_) => "a fragment of another log",
+    }
+}
+
+/// What to do at an end, in short, as docs/RECOVERY.md says under its heading. A log is truncated in a copy of it.
+fn to_do(why: EndReason) -> &'static str {
+    match why {
+        EndReason::Clean => "nothing",
+        EndReason::Broken(damage) => to_do_at_damage(damage),
+        EndReason::BadOrder =>
+            "ask whether files were joined, a front removed, or two programs wrote; `wzlog scan` shows what follows",
+        EndReason::Unfinished => "truncate a copy there: the last write isn't whole",
+        EndReason::Tag(_) => "find out who wrote the log: to apply such an operation takes RocksDB",
+        EndReason::Order { .. } =>
+            "ask whether an older file was written over (then the newer log was read), or two logs were joined",
+        EndReason::Short
+        | EndReason::BadVarint
+        | EndReason::Count { .. }
+        | EndReason::High { .. } =>
+            "find out which program wrote it so; truncate a copy there only if you know what the record was to be",
+    }
+}
+
+fn to_do_at_damage(damage: Damage) -> &'static str {
+    match damage {
+        Damage::ShortHeader =>
+            "truncate a copy there: if a write was incomplete, only that write is lost",
+        Damage::Zeros =>
+            "if only zeros follow, truncate a copy there; if not, a page was lost: take a backup, or another copy",
+        Damage::BadLength =>
+            "if the file ends in this block, truncate a copy there; if it goes on, take a backup, or another copy",
+        Damage::BadType(1..=4) =>
+            "if this is the first fragment, the log has no number: read it without one",
+        Damage::BadType(5..=8) =>
+            "if this is the first fragment, read the log with its number, which it then has",
+        Damage::BadType(9) => "let RocksDB read it; truncate nothing",
+        Damage::BadType(10 | 11 | 130 | 131) =>
+            "let RocksDB read it, of a version that writes this; truncate nothing",
+        Damage::BadType(_) =>
+            "find out who wrote the log; if only you did, a write was torn or the byte is damaged",
+        Damage::BadChecksum | Damage::BadTrailer =>
+            "if this was written last, truncate a copy there; if not, take a backup, and don't trust the medium",
+        Damage::OldLog(_) => "read the log with the number of its own name",
     }
 }
 

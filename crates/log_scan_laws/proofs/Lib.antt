@@ -1,4 +1,5 @@
 pub mod SomeScan
 pub mod OneScan
+pub mod ChangedByte
 pub mod Leading
 pub mod WholeFound

@@ -5,14 +5,18 @@
 //! whole record that follows a block's start without a gap.
 //!
 //! Each law is the contract of a function that does nothing and that nobody calls: it is here so that the law is
-//! proved with the crate.
+//! proved with the crate. `rows` works out what is found in a small log.
 #![tactic(auto)]
+
+mod rows;
 
 ghost use Rattle.std.specs.Prelude.{◌≡◌, ◌*◌, ◌<◌, ℕ, Bool, true, false, List, ◌∷◌, ◌++◌, Option};
 ghost use Rattle.std.specs.List.{AllByRecursion};
 ghost use Rattle.model_base.specs.Log.{Fragment, AreOneRecord, kinds_of, record_of, next_place};
 ghost use Rattle.model_base.specs.Reading.{HasFragments, end_of};
 ghost use Rattle.log_scan.specs.Scanning.{Item, IsScan, Scan, whole};
+
+pub use rows::a_changed_byte_is_passed_over;
 
 /// A file has a scan, and only one: what is shown of it is a function of its bytes.
 pub fn a_scan_is_one()

@@ -14,8 +14,8 @@ use Rattle.wolzenn_c.specs.Reasons.{end_of}
 use Rattle.wolzenn_c.specs.Recoveries.{damage_of}
 use Rattle.wolzenn_c.specs.SeveralLogs.{is_whole_log}
 
--- In numbers: how many batches of the log are kept, up to which place, and how its recovery ends; and how many pairs all
--- logs leave, and the last sequence of all.
+-- In numbers: how many batches of the log are kept, up to which place, and how its recovery ends; and how many pairs
+-- all logs leave, and the last sequence of all.
 abbrev pub summary_with : RecoveryPairs → Recovered → WzRecovered
 summary_with held r = record {
   groups = length r.batches;
@@ -45,8 +45,8 @@ pub record IsRefusedAfter (last : ℕ) (number : Option ℕ) (mode : Mode) (file
   pub damage : IsDamageAfter last number mode file at why
   pub summary_is : summary ≡ damage_of at why
 
--- The answer, with the recovery that the handle holds then. Where recovery ended in an earlier log, which isn't whole, no
--- later one is recovered.
+-- The answer, with the recovery that the handle holds then. Where recovery ended in an earlier log, which isn't whole,
+-- no later one is recovered.
 pub record RecoversMore (number : Option ℕ) (mode : Mode) (file : List ℕ) (before : RecoveryPairs) (code : ℕ)
     (after : Option RecoveryPairs) (summary : WzRecovered) : Type 0 where
   pub ended : before.goes_on ≡ false → code ≡ END

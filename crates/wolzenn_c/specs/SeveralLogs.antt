@@ -18,9 +18,9 @@ abbrev pub is_older : Damage → Bool
 is_older (OldLog number) = true
 is_older _ = false
 
--- Whether a log is whole that is kept up to `kept`, and whose recovery ends at a place for a reason: its file ends there.
--- Or the log has a number, and the next fragment is one that an older log left in the file. It begins less than a header
--- after `kept`: if it were inside of a record, more of this log would be between.
+-- Whether a log is whole that is kept up to `kept`, and whose recovery ends at a place for a reason: its file ends
+-- there. Or the log has a number, and the next fragment is one that an older log left in the file. It begins less than
+-- a header after `kept`: if it were inside of a record, more of this log would be between.
 abbrev pub is_whole : Option ℕ → ℕ → ℕ → EndReason → Bool
 is_whole number kept at ends.Clean = true
 is_whole number kept at (ends.Broken d) = is_some number && is_older d && nat_lt (at - kept) (header_len number)

@@ -25,10 +25,11 @@ use std::alloc::Global;
 ///
 /// `DONE`: the handle holds the pairs of all these logs. `summary` says of this one how many batches are kept, up to
 /// which offset, and where and why its recovery ended; and how many pairs all logs leave, and their last sequence.
-/// `END`: recovery ended in an earlier log, which isn't whole, and no later one is recovered. `DAMAGE`: the mode doesn't
-/// accept the end; `summary.end` says where and why, and the rest of `summary` is 0. `RANGE`: there is no such mode.
-/// `NO_MEMORY`. `CLOSED`: the handle holds no recovery. At any answer except `DONE` the handle holds what it held, and
-/// at any except `DONE` and `DAMAGE` `summary` stays as it was. Other handles with this recovery keep it as it was.
+/// `END`: recovery ended in an earlier log, which isn't whole, and no later one is recovered. `DAMAGE`: the mode
+/// doesn't accept the end; `summary.end` says where and why, and the rest of `summary` is 0. `RANGE`: there is no such
+/// mode. `NO_MEMORY`. `CLOSED`: the handle holds no recovery. At any answer except `DONE` the handle holds what it
+/// held, and at any except `DONE` and `DAMAGE` `summary` stays as it was. Other handles with this recovery keep it as
+/// it was.
 ///
 /// A log is whole where its recovery ended clean, or, in a log with a number, at an older log's fragment that comes
 /// right after the last record that is kept.
@@ -134,8 +135,8 @@ fn with_more(
     Ok((pairs, summary))
 }
 
-/// What several logs without numbers recover is what the definition for such logs says, which the program's `recover` is
-/// proved by.
+/// What several logs without numbers recover is what the definition for such logs says, which the program's `recover`
+/// is proved by.
 pub fn logs_without_numbers()
     ensures { (last : ℕ) (files : List (List ℕ)) (s : RecoveredLogs) (whole : Bool)
         → AreRecoveredInTurn last (map (λ file. (plain_log, file)) files) s whole
