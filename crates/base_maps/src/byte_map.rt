@@ -16,8 +16,8 @@ use std::slice;
 
 /// A map of keys to values, both of bytes. Contracts see the list of its pairs, in the byte order of the keys.
 ///
-/// The pairs are on pages of some five hundred bytes, and the pages on shelves. So no pair has an allocation of its own,
-/// and no look-up and no removal takes memory.
+/// The pairs are on pages of some five hundred bytes, and the pages on shelves. So short pairs have no allocations of
+/// their own, and no look-up and no removal takes memory.
 #[derive(Debug, Drop)]
 pub struct ByteMap {
     alloc: Global,
@@ -48,7 +48,8 @@ impl ByteMap {
         }
     }
 
-    /// Gives a key a value, which replaces the value that it had.
+    /// Gives a key a value, which replaces the value that it had. A key or a value of 2^32 bytes or more is refused
+    /// too as `NoMemory`.
     pub fn insert(&mut self, key: &[u8], value: &[u8]) -> Result<(), NoMemory>
         ensures ok { OnOk result (self.new ≡ insert_entry byte_order self.old key.now value.now) }
         // This is the only call of the map that can fail for want of memory.

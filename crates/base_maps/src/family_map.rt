@@ -47,7 +47,8 @@ impl FamilyMap {
         }
     }
 
-    /// Gives a key of a family a value, which replaces the value that it had.
+    /// Gives a key of a family a value, which replaces the value that it had. A key or a value of 2^32 bytes or more is
+    /// refused too as `NoMemory`.
     pub fn insert(&mut self, family: u32, key: &[u8], value: &[u8]) -> Result<(), NoMemory>
         ensures ok { OnOk result (self.new ≡ insert_entry key_order self.old
             (record { family = family; bytes = key.now }) value.now) }

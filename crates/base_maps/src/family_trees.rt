@@ -1,4 +1,4 @@
-//! The trees of an ordered map of keys in column families.
+//! The maps of all column families, each a map of bytes, as one map.
 
 ghost use Rattle.std.specs.Prelude.{◌≡◌, ◌<◌, ◌^◌, [], length, OnOk, OnErr};
 ghost use Rattle.std.specs.Option.{option_copied};

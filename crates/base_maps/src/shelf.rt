@@ -10,7 +10,8 @@ use std::alloc::Global;
 use std::marker::Model;
 use std::slice;
 
-/// The most pages of a shelf.
+/// A shelf with this many pages is split, if there is memory for that. A search goes through the first keys of the
+/// shelves, and then through those of one shelf's pages; both lists are short with some hundred pages.
 const MOST_PAGES: usize = 128;
 
 /// Some pages, in the byte order of their keys. None of them is empty. Contracts see the list of their pairs.

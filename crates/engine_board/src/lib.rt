@@ -3,8 +3,7 @@
 //! A client that says something raises `said` to it, and then looks at `mark`. Another one raises `mark`, and then
 //! looks at `said`. All steps have one order. So where the first one's look didn't find the second one's mark, it came
 //! before the mark, and the second one's look finds what the first one said, or more. That is what `close` says of all
-//! looks.
-//! No client waits here for another.
+//! looks. No client waits here for another.
 #![tactic(auto)]
 
 ghost use Rattle.std.specs.Prelude.{◌≡◌, ◌∷◌, ◌++◌, [], max, IfOk};

@@ -81,7 +81,7 @@ impl Outcome<Numbers, ControllerView> for Closing {
     ghost then = { λ v _ _ w. Closes v w };
 }
 
-/// What an exchange asks for: this call, where the numbers are still those that were found before.
+/// The call that a step makes; of an exchange also the numbers that were found before, and must still be there.
 pub trait Asking {
     ghost use Rattle.engine_controller.specs.declared.numbers.Action.{Action};
     ghost use Rattle.engine_controller.specs.declared.numbers.Numbers.{Numbers};
@@ -134,7 +134,7 @@ impl<Picked: Asking> Outcome<Numbers, ControllerView> for Unslowed<Picked> {
 }
 
 /// A load that is itself a call, which says something, where the controller counts as many token calls as the mark that
-/// the client found. The outcome knows the call.
+/// the client found, or more. The outcome knows the call.
 pub struct Saying<Picked: Asking> {
     asking: PhantomData<Picked>,
 }

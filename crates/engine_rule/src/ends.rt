@@ -1,7 +1,7 @@
 //! What follows from the commits: for each client from its newest answer, and for all clients at the closing.
 
 ghost use mathlib.Core.List.{IsPrefix};
-ghost use Rattle.std.specs.Prelude.{◌≡◌, ◌+◌, ◌<◌, ◌≤◌, ℕ, List, [], ◌∷◌, ◌++◌, length, take, Option, None, Some, IfSome, true, false};
+ghost use Rattle.std.specs.Prelude.{◌≡◌, ◌+◌, ◌<◌, ◌≤◌, ℕ, List, [], ◌∷◌, ◌++◌, length, take, Option, None, Some, IfSome, true};
 ghost use Rattle.model_base.specs.declared.write.Refusal.TheVariants.{Incomplete, LogFault, SequenceFull};
 ghost use Rattle.model_base.specs.declared.write.WriteOptions.{WriteOptions};
 ghost use Rattle.model_base.specs.History.{max_sequence};
@@ -19,7 +19,7 @@ ghost use Rattle.table_rule.specs.Histories.{Begins, made_by, last_of};
 ghost use Rattle.model_accounts.specs.Accounts.{Account, FailsToRead, Keeps, ReadsLog, Wrote};
 ghost use Rattle.model_accounts.specs.Closing.{HasOneTrace};
 ghost use Rattle.engine_controller.specs.Passes.{EndsWith};
-ghost use Rattle.engine_rule.specs.Commits.{Commit, accepted, held_up, failed, no_room, last_after_all, AreAnswered, commits_of};
+ghost use Rattle.engine_rule.specs.Commits.{Commit, accepted, held_up, failed, no_room, last_after_all, AreAnswered};
 ghost use Rattle.engine_rule.specs.Asked.{place_of, decided_of};
 ghost use Rattle.engine_rule.specs.Entries.{versions_made, ClientCall, account_before, account_with, account_told, HasSeenMore, IsFree, IsNewest, IsWithin, ShowsBatch, EndsRefused, StaysOutside, AreCallsOf};
 ghost use Rattle.engine_rule.specs.Reading.{gave, broke, lacked};

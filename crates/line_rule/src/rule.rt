@@ -98,6 +98,7 @@ impl<Request, Reply, About> PickedRight<Request, Reply, About> for Brand {
     ghost given = { [] };
 }
 
+/// The rule: between any two steps `Listed` holds of the words, the slots and the seats.
 pub struct ListRule;
 
 impl<

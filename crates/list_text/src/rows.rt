@@ -1,6 +1,6 @@
 //! Some values of the definitions.
 
-ghost use Rattle.std.specs.Prelude.{◌≡◌, [], ◌∷◌, Some, None, true, false, codes};
+ghost use Rattle.std.specs.Prelude.{◌≡◌, [], ◌∷◌, Some, None, codes};
 ghost use Rattle.list_text.specs.Keys.{key_in};
 ghost use Rattle.list_text.specs.Words.{word};
 ghost use Rattle.list_text.specs.Rows as rows;

@@ -97,7 +97,8 @@ fn newest_from(first: Option<&Node>, at: u64) -> Option<&Node>
     best
 }
 
-/// The newest version of a family's key up to a sequence, of one that was found and of those of the list from a node on.
+/// The newest version of a family's key up to a sequence, of one that was found and of those of the list from a node
+/// on.
 fn newest_of<'t>(
     first: Option<&'t Node>,
     found: Option<&'t Node>,

@@ -27,7 +27,7 @@ pub(crate) struct Content {
 /// Where the bytes are: `key_len` of them are the key's, and where there is a value, those after them are the value's.
 #[derive(Drop)]
 enum Place {
-    /// In place: the first `len` of these bytes, and zeros follow.
+    /// In place: the first `len` of these bytes. What follows them isn't read.
     Short {
         has_value: bool,
         key_len: u8,

@@ -20,8 +20,8 @@ pub(crate) struct Links {
     shape: Shape,
 }
 
-/// Which of both there are. With children there is the rank of the node: how high the tree is whose root it is, less one.
-/// It is for speed alone.
+/// Which of both there are. With children there is the rank of the node: how high the tree is whose root it is, less
+/// one. It is for speed alone.
 #[cycle(nodes)]
 enum Shape {
     /// It has no children.
