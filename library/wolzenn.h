@@ -28,7 +28,8 @@
    What is promised below is proved, of the functions as they are called from Rattle. Four things are only tested: that
    WZ_NO_MEMORY comes only where there was no memory; that no memory is leaked; that a null pointer with the length 0
    means no bytes; and the texts of codes and reasons. How much memory is taken, and what is copied, is neither. That
-   pointers and lengths are as said above is up to the caller. docs/LIBRARY.md has more, and first programs.
+   this header's numbers, types and arguments are those of the proved functions is compared by a test. That pointers and
+   lengths are as said above is up to the caller. docs/LIBRARY.md has more, and first programs.
 
    A program that was written when this header had one type of handle defines WZ_OLD_NAMES before it includes it: then
    all handles are a wz_handle, which wz_close closes, codes and reasons are a uint32_t, and reasons, modes and
@@ -385,10 +386,11 @@ WZ_ANSWER wz_code wz_recover(wz_recovery *recovery, uint32_t number, wz_mode mod
    order in which they were written, the first by wz_recover and each later one by this call. WZ_DONE: the handle holds
    the pairs of all of them. summary->pairs and summary->last are about all, the rest of *summary is about this one.
    WZ_END: an earlier log isn't whole, so that recovery ended in it, and no later one is recovered. A log is whole where
-   its recovery ends with WZ_WHY_CLEAN; or, if it has a number, with WZ_WHY_OLD_LOG right after the last record kept, as
-   a log does that was written over an older one. WZ_DAMAGE: the mode doesn't accept the end; summary->end says where
-   and why, and the rest of *summary is 0. WZ_RANGE: there is no such mode. WZ_NO_MEMORY. WZ_CLOSED: the handle holds
-   no recovery. At any answer except WZ_DONE the handle holds what it held. Each call copies the pairs of all logs so
+   its recovery ends with WZ_WHY_CLEAN; or, if it has a number, with WZ_WHY_OLD_LOG and a lower number right after the
+   last record kept, as a log does that was written over an older one. WZ_DAMAGE: the mode doesn't accept the end;
+   summary->end says where and why, and the rest of *summary is 0. WZ_RANGE: there is no such mode. WZ_NO_MEMORY.
+   WZ_CLOSED: the handle holds no recovery. At any answer except WZ_DONE the handle holds what it held: after WZ_DAMAGE
+   it is as if this log hadn't been given, so recover no later one over it. Each call copies the pairs of all logs so
    far: a handle that was given this recovery by wz_recovery_share keeps it as it was. */
 WZ_ANSWER wz_code wz_recover_more(wz_recovery *recovery, uint32_t number, wz_mode mode, const void *log, size_t log_len,
                                   wz_recovered *summary) WZ_NONNULL(1, 6);
@@ -399,8 +401,8 @@ WZ_ANSWER wz_code wz_recover_more(wz_recovery *recovery, uint32_t number, wz_mod
    when), it starts at 0 with the last sequence of that one. Where it is what an earlier call left of a log that has
    grown, only what came after it is read: the log's bytes are all of them nevertheless, from its start on. WZ_DONE:
    *end says where recovery ends, and why; any end is accepted (WZ_MODE_POINT). WZ_RANGE: the log ends before the place.
-   WZ_NO_MEMORY. At the last two *place stays as it was. Whether the log is kept up to the place isn't looked at: from
-   any other place it is read as if it were. */
+   WZ_NO_MEMORY. At the last two *place stays as it was. Whether the log is kept up to the place isn't looked at: it is
+   read on from there as if it were, but where *place and *end go from any other place isn't promised. */
 WZ_ANSWER wz_code wz_recover_place(uint32_t number, const void *log, size_t log_len, wz_place *place, wz_end *end)
     WZ_NONNULL(4, 5);
 

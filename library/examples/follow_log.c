@@ -82,7 +82,8 @@ static wz_code print_more(followed *log) {
 }
 
 int main(int argc, char **argv) {
-    followed log = {.file = argc > 2 ? fopen(argv[1], "rb") : NULL, .end = {.why = WZ_WHY_CLEAN}};
+    if (argc < 3) return fprintf(stderr, "follow_log LOG SINCE [NUMBER]\n"), 2;
+    followed log = {.file = fopen(argv[1], "rb"), .end = {.why = WZ_WHY_CLEAN}};
     if (log.file == NULL) return fprintf(stderr, "follow_log: the log can't be read\n"), 2;
     log.since = strtoull(argv[2], NULL, 10);
     log.number = argc > 3 ? (uint32_t)strtoul(argv[3], NULL, 10) : 0;

@@ -91,8 +91,9 @@ static uint8_t *read_file(const char *path, size_t *len) {
 }
 
 int main(int argc, char **argv) {
+    if (argc < 2) return fprintf(stderr, "print_log LOG [NUMBER]\n"), 2;
     size_t len;
-    uint8_t *log = argc > 1 ? read_file(argv[1], &len) : NULL;
+    uint8_t *log = read_file(argv[1], &len);
     if (log == NULL) return fprintf(stderr, "print_log: the log can't be read\n"), 2;
 
     wz_reader reader = WZ_HANDLE_INIT;

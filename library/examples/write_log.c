@@ -57,7 +57,7 @@ static void commit(log_file *log, wz_batch *batch) {
     check(wz_log_record(log->number, log->offset, record, len, text, room, &text_len) == WZ_DONE, "a record");
     for (size_t done = 0; done < text_len;) {
         ssize_t more = write(log->file, text + done, text_len - done);
-        check(more > 0, "the log can't be written: cut it at the end of its last record");
+        check(more > 0, "the log can't be written: truncate it at the end of its last record");
         done += (size_t)more;
     }
     check(fsync(log->file) == 0, "the log can't be synced");
@@ -110,7 +110,7 @@ int main(int argc, char **argv) {
     }
     commit(&log, &batch);
 
-    /* A value of three blocks, so that the record is cut into fragments. */
+    /* A value of three blocks, so that the record has several fragments. */
     char *value = memset(room_for(100000), 'v', 100000);
     value[100000] = 0;
     check(wz_batch_clear(&batch) == WZ_DONE, "a batch is emptied");

@@ -183,6 +183,11 @@ class Recovering(unittest.TestCase):
             self.assertTrue(found.recover_more(log_of(TWO, number=8), 8, Mode.ABSOLUTE))
             self.assertEqual((len(found), found.last, found.end.why), (2, 4, Why.CLEAN))
 
+    def test_a_log_read_with_a_number_that_is_too_low(self):
+        with wolzenn.recover(log_of(ONE, number=7), 6) as found:
+            self.assertEqual((found.end.why, found.end.first, len(found)), (Why.OLD_LOG, 7, 0))
+            self.assertFalse(found.recover_more(log_of(TWO, number=8), 8))
+
 
 class Batches(unittest.TestCase):
     def test_operations(self):

@@ -580,9 +580,10 @@ class Recovery(_Held):
         written. From then on `groups`, `kept` and `end` are about this log, and the rest about all of them.
 
         Whether it was: not if an earlier log isn't whole, since recovery ended in that one. A log is whole whose end is
-        `Why.CLEAN`, or, if it has a number, `Why.OLD_LOG` right after the last record kept. Damage where the mode
-        doesn't accept the end; at an error the recovery stays as it was. Each call copies the pairs of all logs so far:
-        a recovery that was shared before keeps its own.
+        `Why.CLEAN`, or, if it has a number, `Why.OLD_LOG` with a lower one right after the last record kept. Damage
+        where the mode doesn't accept the end. At an error the recovery stays as it was, as if the log hadn't been
+        given: recover no later one over it. Each call copies the pairs of all logs so far: a recovery that was shared
+        before keeps its own.
         """
         return self._recover(_library.wz_recover_more, log, number, mode)
 
@@ -644,9 +645,9 @@ class Place:
         """Moves it to the end of the last record that `recover` keeps, where the log may be resumed, and answers where
         recovery ends. No pairs are made. Of a log that has grown since the last call only what came after that is read;
         `log` is nevertheless all that it has by now. PastEnd if the log ends before the place, which stays then.
-        Whether the log is kept up to the place isn't looked at: from any other place it is read as if it were. For a
-        log that follows another one, which is whole (`Recovery.recover_more` says when), it starts at the offset 0 with
-        the last sequence of that one."""
+        Whether the log is kept up to the place isn't looked at: it is read on from there as if it were, but where it
+        goes from any other place isn't promised. For a log that follows another one, which is whole
+        (`Recovery.recover_more` says when), it starts at the offset 0 with the last sequence of that one."""
         place, end = _Place(self.at, self.last), _End()
         with _Bytes(log) as data:
             number = _within(number, 32, "the number of a log")

@@ -1,10 +1,11 @@
 -- The steps of following a log from a place on: one more record, or the end, or one that goes past `upto`.
-use Rattle.std.proofs.Common.{Option, ◌≡◌, ◌≢◌, ℕ, ◌≤◌, ◌==◌, Bool, true, false, cond, List, [], ◌∷◌, ◌++◌, length, refl, sym, ◌∙◌, ap, subst, append_assoc, append-nil, arith, MatchOption, IfSome, Some, None}
+use Rattle.std.proofs.Common.{Option, ◌≡◌, ◌≢◌, ℕ, ◌<◌, ◌≤◌, ◌==◌, Bool, true, false, cond, List, [], ◌∷◌, ◌++◌, length, refl, sym, ◌∙◌, ap, subst, append_assoc, append-nil, arith, MatchOption, IfSome, Some, None}
 use Rattle.std.specs.List.{AllByRecursion}
 use Rattle.std.proofs.lemmas.Bool.{false≢true}
 use Rattle.std.proofs.lemmas.List.Sums.{fold-append}
 use Rattle.model_base.specs.Batch.{count_of}
 use Rattle.model_base.specs.declared.log.EndReason.{EndReason}
+use Rattle.model_base.specs.History.{max_sequence}
 use Rattle.model_base.specs.Log.{record_of, next_place}
 use Rattle.model_base.specs.Reading.{end_of, HasFragments, ReadingEnds, IsRecord}
 use Rattle.model_base.specs.Recovery.{Logged, last_of, last_after, last_sequence, MayFollow, AreInOrder}
@@ -157,6 +158,11 @@ rises_on s upto from old new bytes end adds so_far = by_count (count_of b.record
         let may = ((adds.picks).kept).may some in
         let within = adds.within some in
         (omega (arith, is, may.0, so_far.0), λ above. omega (arith, is, within, above))
+
+-- a record stops reading without an end only where it goes past `upto`, and it is at or below the greatest sequence
+pub stops_below : (upto last start : ℕ) (bytes : List ℕ) (stop : Stop) → Stops upto last bytes stop → end_of_stop start stop ≡ None → upto < max_sequence
+stops_below upto last start bytes Past past none = let fits = (past.kept).may (past.past).0 in omega (arith, fits.1, (past.past).1)
+stops_below upto last start bytes (Refused why) refuses none = absurd (cc)
 
 pub follows_more : (told before : Option (List ℕ)) (number : Option ℕ) (s upto : ℕ) (from : Place) (old new : Picked) (log after : Reader) (starts end : ℕ) (in_hand bytes : List ℕ) → before ≡ told → log.number ≡ number → log.stopped ≡ None → after.place ≡ end → bytes ≡ in_hand
     → PicksWithin s upto old new bytes end → IfSome told (IsSoFar number s upto from old log) → IfSome before (λ file. Follows file log → log.stopped ≡ None → Reads log.number file log.place in_hand (next.Record starts end))

@@ -7,7 +7,6 @@ pub mod Recovers
 pub mod Telling
 pub mod Numbered
 pub mod Picking
-pub mod UpdateSteps
 pub mod Zeros
 pub mod CutOff
 pub mod Accepting

@@ -48,7 +48,7 @@ adds_since s upto first count bytes records old new b is count_is asked added =
     added ∙ ap (λ (l : List (List ℕ)). old ++ l) (same ∙ sym known)
 
 -- What the code changes is that it picks this record, if it is asked for.
-pub picks : (s upto : ℕ) (old new : Picked) (bytes : List ℕ) (end first count : ℕ) (records : List Record) (b : Bool) → IsBatch bytes first records → count ≡ count_of records → MayRun old.last first count
+picks : (s upto : ℕ) (old new : Picked) (bytes : List ℕ) (end first count : ℕ) (records : List Record) (b : Bool) → IsBatch bytes first records → count ≡ count_of records → MayRun old.last first count
     → b ≡ is_since s upto (record { first = first; count = count; bytes = bytes }) → new.records.items ≡ old.records.items ++ cond b (bytes ∷ []) []
     → new.last ≡ cond (count == 0) old.last (first + count - 1) → new.end ≡ end → Picks s upto old new bytes end
 picks s upto old new bytes end first count records b is count_is may asked added last end_is = record {

@@ -1,6 +1,8 @@
-//! Following a log that grows: its records from a place on, which the caller knows.
+//! Following a log that grows: its records from a place on, which the caller knows. Of these a caller asks for those
+//! from a sequence on, as by `GetUpdatesSince` of RocksDB's include/rocksdb/db.h.
 
 ghost use Rattle.std.specs.Prelude.{◌≡◌, ◌^◌, ◌<◌, ◌≤◌, ℕ, List, [], ◌++◌, length, IfOk, IfErr, IfSome, OnOk, Option, None};
+ghost use Rattle.model_base.specs.History.{max_sequence};
 ghost use Rattle.model_base.specs.Recovery.{Logged};
 ghost use Rattle.log_reader.specs.Reader.{Follows};
 ghost use Rattle.log_recovery.specs.declared.modes.Mode.TheVariants.{Point};
@@ -37,8 +39,8 @@ pub struct MoreUpdates {
 /// no later one can be asked for. So who follows a log that grows reads each record once: the next call begins at the
 /// place where this one stopped.
 ///
-/// If the place isn't the end of a record of this log, nothing is said of the answer. The error is `Fault` where a read
-/// failed, and `NoMemory` where there was no memory for a block or a record. It is never `Damage`.
+/// If the place isn't the end of a record of this log, nothing is said of the records. The error is `Fault` where a
+/// read failed, and `NoMemory` where there was no memory for a block or a record. It is never `Damage`.
 pub fn updates_from<R: ReadAt>(
     alloc: Global,
     disk: &mut R,
@@ -55,6 +57,9 @@ pub fn updates_from<R: ReadAt>(
     ensures small { IfOk result (λ more. more.place.at < 2 ^ 63) }
     // Whatever is read, the place's last sequence doesn't fall, and no record above `upto` raises it.
     ensures last { IfOk result (λ more. RisesTo upto from.last more.place.last) }
+    // From any place it stops without an end only at a record that goes past `upto`, and no record goes past the
+    // greatest sequence. So a caller that asks for all records up to that one always learns where reading ended.
+    ensures stops { IfOk result (λ more. more.end ≡ None → upto < max_sequence) }
     ensures worked { OnOk result (R.failures disk.new ≡ R.failures disk.old) }
     ensures error { IfErr result (IsRecoverError Point (R.failures disk.old) (R.failures disk.new)) }
     ensures disk { R.only_reads disk.old disk.new }
@@ -66,7 +71,7 @@ pub fn updates_from<R: ReadAt>(
     loop {
         match log.next(disk) {
             Next::Record { start, end } => {
-                if let Some(stop) = picked.pick_on(alloc, since, upto, log.record(), end)? {
+                if let Some(stop) = picked.pick(alloc, since, upto, log.record(), end)? {
                     return Ok(more_of(picked, end_at(start, stop)));
                 }
             }

@@ -17,13 +17,10 @@ mod modes;
 mod more;
 mod picked;
 mod recovery;
-mod since;
 
 pub use following::{MoreUpdates, Place, places, updates_from};
 pub use kept::GroupNote;
 pub use many::{RecoveredMany, recover_many};
 pub use modes::Mode;
 pub use more::recover_more;
-pub use picked::Updates;
 pub use recovery::{End, RecoverError, Recovered, recover, recover_mode};
-pub use since::updates;

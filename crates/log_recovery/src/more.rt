@@ -8,7 +8,7 @@ ghost use Rattle.log_recovery.specs.RecoveringMore.{HasRecoveredMore, TellsDamag
 
 use crate::kept::Kept;
 use crate::modes::{Mode, accepts};
-use crate::recovery::{End, RecoverError, Recovered, keep_log};
+use crate::recovery::{End, RecoverError, Recovered, answer_of, keep_log};
 use base_devices::ReadAt;
 use base_maps::FamilyMap;
 use std::alloc::Global;
@@ -69,11 +69,5 @@ fn after_all<R: ReadAt>(
         end: 0,
     };
     let end = keep_log(alloc, disk, number, &mut kept)?;
-    Ok(Recovered {
-        groups: kept.groups,
-        map: kept.map,
-        last: kept.last,
-        kept: kept.end,
-        end,
-    })
+    Ok(answer_of(kept, end))
 }

@@ -3,50 +3,27 @@
 ghost use Rattle.std.specs.Prelude.{◌≡◌, ◌≢◌, ◌==◌, ◌+◌, ◌-◌, ◌≤◌, nat_lt, ℕ, List, [], false, if◌then◌else◌, IfOk, MatchOption};
 ghost use Rattle.model_base.specs.History.{max_sequence};
 ghost use Rattle.model_base.specs.Since.{is_since};
-ghost use Rattle.log_recovery.specs.Keeping.{Refuses};
-ghost use Rattle.log_recovery.specs.Updating.{Picks};
 ghost use Rattle.log_recovery.specs.Following.{PicksWithin, Stops};
 
 use crate::following::Place;
 use crate::kept::{end_of, last_after, run_end};
-use crate::recovery::End;
 use base_bytes::Bytes;
 use log_batch::read_batch;
 use model_base::{EndReason, NoMemory};
 use std::alloc::Global;
-
-/// The records of a log from a sequence on and up to another one, and where and why reading ended.
-#[derive(Drop)]
-pub struct Updates {
-    pub records: Vec<Bytes>,
-    pub end: End,
-}
 
 /// What the records that are read so far give.
 #[derive(Drop)]
 pub struct Picked {
     /// Those of them that are asked for.
     pub records: Vec<Bytes>,
-    /// The last sequence, 0 before the first.
+    /// The last sequence before or in them.
     pub last: u64,
-    /// The offset after these records.
+    /// The offset after them.
     pub end: u64,
 }
 
 impl Picked {
-    /// Nothing is read yet. This takes no memory.
-    pub fn new(alloc: Global) -> Picked
-        ensures records { result.records.items ≡ [] }
-        ensures last { result.last ≡ 0 }
-        ensures end { result.end ≡ 0 }
-    {
-        Picked {
-            records: Vec::new(alloc),
-            last: 0,
-            end: 0,
-        }
-    }
-
     /// Nothing is read yet, from this place on. This takes no memory.
     pub fn from_place(alloc: Global, from: Place) -> Picked
         ensures records { result.records.items ≡ [] }
@@ -61,40 +38,8 @@ impl Picked {
     }
 
     /// Picks the record of these bytes, which ends at the offset `end`, if it is one of those from `since` on and up to
-    /// `upto`. Or says why recovery wouldn't keep it.
+    /// `upto`. Or says why reading stops at it: it goes past `upto`, or recovery wouldn't keep it.
     pub fn pick(
-        &mut self,
-        alloc: Global,
-        since: u64,
-        upto: u64,
-        bytes: &[u8],
-        end: u64,
-    ) -> Result<Option<EndReason>, NoMemory>
-        ensures { IfOk result (λ r. MatchOption r
-            (Picks since upto self.old self.new bytes.now end)
-            (λ why. (self.new ≡ self.old) × Refuses self.old.last bytes.now why)) }
-    {
-        let batch = match read_batch(bytes) {
-            Ok(batch) => batch,
-            Err(error) => return Ok(Some(end_of(error))),
-        };
-        let first = batch.sequence();
-        let count = batch.count();
-        if let Some(why) = run_end(self.last, first, count) {
-            return Ok(Some(why));
-        }
-        let last = last_after(self.last, first, count);
-        if is_picked(first, count, since, upto) {
-            let record = Bytes::copy(alloc, bytes)?;
-            self.records.push(record)?;
-        }
-        self.last = last;
-        self.end = end;
-        Ok(None)
-    }
-
-    /// Picks the record as `pick` does, if it doesn't go past `upto`. Or says why reading stops at it.
-    pub fn pick_on(
         &mut self,
         alloc: Global,
         since: u64,

@@ -71,8 +71,8 @@ pub fn recover<R: ReadAt>(
     ensures numbered { IfOk result (λ r. IsNumbered r.map r.last) }
     // So no fault is swallowed.
     ensures worked { OnOk result (R.failures disk.new ≡ R.failures disk.old) }
-    // An error has a cause: the disk's count of faults rose, and the error has the count that the disk then has; or there
-    // was no memory.
+    // An error has a cause: the disk's count of faults rose, and the error has the count that the disk then has; or
+    // there was no memory.
     ensures error { IfErr result (IsRecoverError Point (R.failures disk.old) (R.failures disk.new)) }
     // The disk is only read.
     ensures disk { R.only_reads disk.old disk.new }
@@ -149,7 +149,7 @@ pub fn recover_mode<R: ReadAt>(
 }
 
 /// The answer, from what is kept and from the end of recovery.
-fn answer_of(kept: Kept, end: End) -> Recovered
+pub(crate) fn answer_of(kept: Kept, end: End) -> Recovered
     ensures { result ≡ record { groups = kept.groups; map = kept.map; last = kept.last; kept = kept.end; end = end } }
 {
     Recovered {

@@ -7,7 +7,7 @@ use crate::logs::LOG;
 use crate::writing::{add, add_three, opened, put, three_puts};
 use base_devices::MemDisk;
 use log_batch::Batch;
-use log_recovery::{End, Place, RecoverError, updates, updates_from};
+use log_recovery::{End, Place, RecoverError, updates_from};
 use log_updates::{LogPlace, LogUpdates, updates_of_logs};
 use log_writer::{LogWriter, ReadableLog};
 use model_base::EndReason;
@@ -20,34 +20,18 @@ const WHOLE: End = End {
     why: EndReason::Clean,
 };
 
-// From which sequence on and up to which one records of `LOG` are asked for, and how many these are.
-const SINCE: [(u64, u64, usize); 6] = [
-    (1, 2, 2),
-    (2, 2, 1),
-    (1, 1, 1),
-    (3, 9, 0),
-    (2, 1, 0),
-    (0, 9, 2),
-];
-
-#[test]
-fn reads_from_a_sequence_on(rt: HostRuntime) -> Result<(), Fail> {
-    for (row, (since, upto, wanted)) in SINCE.iter().enumerate() {
-        let mut disk = MemDisk::new(rt.alloc(), LOG.len(), &LOG, &[])?;
-        let found = updates(rt.alloc(), &mut disk, None, *since, *upto)?;
-        check(&rt, row, &found.records.len(), wanted);
-        check(&rt, row, &found.end, &WHOLE);
-    }
-    Ok(())
-}
-
 // A place of `LOG`, in numbers: an offset, and the last sequence before it.
 type Numbers = (u64, u64);
 
 // From which place of `LOG` on it is read, from which sequence on and up to which one; how many records that gives, to
 // which place it comes, and whether it ends there. It stops before a record that goes past the last sequence.
-const FROM: [(Numbers, u64, u64, usize, Numbers, bool); 8] = [
+const FROM: [(Numbers, u64, u64, usize, Numbers, bool); 13] = [
     ((0, 0), 1, 1, 1, (24, 1), false),
+    ((0, 0), 1, 2, 2, (48, 2), true),
+    ((0, 0), 2, 2, 1, (48, 2), true),
+    ((0, 0), 2, 1, 0, (24, 1), false),
+    ((0, 0), 3, 9, 0, (48, 2), true),
+    ((0, 0), 0, 9, 2, (48, 2), true),
     ((0, 0), 1, 9, 2, (48, 2), true),
     ((24, 1), 2, 9, 1, (48, 2), true),
     ((24, 1), 2, 1, 0, (24, 1), false),

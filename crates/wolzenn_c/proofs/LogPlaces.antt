@@ -1,34 +1,20 @@
 -- Recovery from a place on, of which all records are read.
-use Rattle.std.proofs.Common.{◌≡◌, ℕ, ◌-◌, ◌^◌, Option, Some, None, MatchOption, List, [], ◌∷◌, ◌++◌, refl, ap, subst, arith}
-use Rattle.model_base.specs.Recovery.{Logged, last_after, AreInOrder}
+use Rattle.std.proofs.Common.{◌≡◌, ℕ, ◌-◌, ◌^◌, Option, Some, MatchOption, List, [], ◌++◌, refl, ap, subst}
+use Rattle.model_base.specs.Recovery.{Logged}
 use Rattle.model_base.specs.RecoveredLogs.{IsRecoveredAfter}
 use Rattle.log_recovery.specs.declared.following.MoreUpdates.{MoreUpdates}
 use Rattle.log_recovery.specs.declared.recovery.End.{End}
-use Rattle.log_recovery.specs.Following.{StandsAt, GoesPast, OneIsPast, HasMore}
+use Rattle.log_recovery.specs.Following.{StandsAt, OneIsPast, HasMore}
 use Rattle.log_recovery.proofs.Recovers.{is_recovered}
 use Rattle.wolzenn_c.specs.declared.codes.WzEnd.{WzEnd}
 use Rattle.wolzenn_c.specs.declared.log_place.WzPlace.{WzPlace}
 use Rattle.wolzenn_c.specs.LogPlaces.{log_start, place_of, GoesOnTo, KeepsUpTo}
 use Rattle.wolzenn_c.specs.Reasons.{end_of}
 
--- batches in order don't go past the greatest u64, since no sequence is as high
-none_past : (last : ℕ) (bs : List Logged) (b : Logged) → AreInOrder last (bs ++ b ∷ []) → GoesPast (2 ^ 64 - 1) b → ⊥
-none_past last [] b ordered past =
-    let may = ordered.0 past.0 in
-    let far = past.1 in
-    omega (arith, may.1, far)
-none_past last (c ∷ cs) b ordered past = none_past (last_after last c) cs b ordered.1 past
-
 -- what the answer says of the rest, by where it ended
 abbrev Rest : ℕ → Option ℕ → List ℕ → List Logged → MoreUpdates → Option End → Type 0
 Rest start number file batches more end = MatchOption end (OneIsPast start number file (2 ^ 64 - 1) batches)
     (λ e. IsRecoveredAfter start number file (record { batches = batches; kept = more.place.at; at = e.at; why = e.why }))
-
--- so that reading doesn't stop at a record
-pub must_end : (start : ℕ) (number : Option ℕ) (file : List ℕ) (s : ℕ) (before : List Logged) (more : MoreUpdates) → HasMore start number file s (2 ^ 64 - 1) before more → more.end ≡ None → ⊥
-must_end start number file s before more has none =
-    let past : OneIsPast start number file (2 ^ 64 - 1) (before ++ has.read) = subst (Rest start number file (before ++ has.read) more) none has.rest in
-    none_past start (before ++ has.read) past.next past.keeps.in_order past.past
 
 -- the place, and the end that is told
 abbrev pub reached : MoreUpdates → WzPlace
@@ -62,13 +48,9 @@ keeps_up_to number file place end goes = record {
 abbrev pub Reads : Option ℕ → List ℕ → WzPlace → MoreUpdates → Type 0
 Reads number file from more = (start : ℕ) (before : List Logged) → StandsAt start number file (place_of from) before → HasMore start number file (2 ^ 64 - 1) (2 ^ 64 - 1) before more
 
--- From the start on reading doesn't stop at a record, and comes to what is recovered.
+-- From the start on it comes to what is recovered.
 abbrev pub FromStart : Option ℕ → List ℕ → Type 0
 FromStart number file = StandsAt 0 number file (place_of log_start) []
-
-pub must_end_from_start : (number : Option ℕ) (file : List ℕ) (from : WzPlace) (more : MoreUpdates) → FromStart number file → Reads number file from more → from ≡ log_start → more.end ≡ None → ⊥
-must_end_from_start number file from more stands reads is none =
-    must_end 0 number file (2 ^ 64 - 1) [] more (subst (λ (p : WzPlace). Reads number file p more) is reads 0 [] stands) none
 
 pub kept_from_start : (number : Option ℕ) (file : List ℕ) (from : WzPlace) (more : MoreUpdates) (last : End) → FromStart number file → Reads number file from more → from ≡ log_start → more.end ≡ Some last
     → KeepsUpTo number file (reached more) (end_of last.at last.why)

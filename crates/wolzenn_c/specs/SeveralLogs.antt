@@ -1,6 +1,6 @@
 -- What is recovered from several logs that were written one after another, each with a number of its own, or without
 -- one.
-use Rattle.std.specs.Prelude.{◌≡◌, ℕ, ◌-◌, ◌&&◌, Bool, true, false, nat_lt, List, [], ◌∷◌, Option, MatchOption, is_some}
+use Rattle.std.specs.Prelude.{◌≡◌, ℕ, ◌-◌, ◌&&◌, Bool, true, false, nat_lt, List, [], ◌∷◌, Option, Some, MatchOption}
 use Rattle.model_base.specs.declared.log.Damage.{Damage}
 use Rattle.model_base.specs.declared.log.Damage.TheVariants.{OldLog}
 use Rattle.model_base.specs.declared.log.EndReason.{EndReason}
@@ -14,16 +14,17 @@ use Rattle.log_in_memory.specs.declared.recovery_pairs.RecoveryPairs.{RecoveryPa
 abbrev pub Numbered : Type 0
 Numbered = Option ℕ × List ℕ
 
-abbrev pub is_older : Damage → Bool
-is_older (OldLog number) = true
-is_older _ = false
+-- Logs get rising numbers, so an older one's is lower. A higher one says that the log was read with a wrong number.
+abbrev pub is_older_than : ℕ → Damage → Bool
+is_older_than own (OldLog number) = nat_lt number own
+is_older_than own _ = false
 
 -- Whether a log is whole that is kept up to `kept`, and whose recovery ends at a place for a reason: its file ends
 -- there. Or the log has a number, and the next fragment is one that an older log left in the file. It begins less than
 -- a header after `kept`: if it were inside of a record, more of this log would be between.
 abbrev pub is_whole : Option ℕ → ℕ → ℕ → EndReason → Bool
 is_whole number kept at ends.Clean = true
-is_whole number kept at (ends.Broken d) = is_some number && is_older d && nat_lt (at - kept) (header_len number)
+is_whole (Some own) kept at (ends.Broken d) = is_older_than own d && nat_lt (at - kept) (header_len (Some own))
 is_whole number kept at _ = false
 
 abbrev pub is_whole_log : Option ℕ → Recovered → Bool

@@ -1,4 +1,4 @@
-//! The proved crates for programs in C, C++ and Rust: the functions of `library/wolzenn.h`.
+//! The proved crates for programs in C, C++, Rust and Python: the functions of `library/wolzenn.h`.
 //!
 //! - `checksum`, `reader`, `scan`, `recovery`, `more_logs`, `sharing`, `log_place`, `pairs`, `batch`, `batch_bytes`,
 //!   `operations`, `log_record`, `handle`: the functions, by kind

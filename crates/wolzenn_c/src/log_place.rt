@@ -1,6 +1,6 @@
 //! Recovery of a log without its pairs: how far it is kept, and its last sequence.
 
-ghost use Rattle.std.specs.Prelude.{◌≡◌, ◌≢◌, ◌<◌, ◌⊎◌, ℕ, List, length};
+ghost use Rattle.std.specs.Prelude.{◌≡◌, ◌≢◌, ◌<◌, ◌⊎◌, ◌↔◌, ℕ, List, length};
 ghost use Rattle.model_base.specs.Recovery.{Logged};
 ghost use Rattle.log_recovery.specs.Following.{StandsAt};
 ghost use Rattle.wolzenn_c.specs.LogPlaces.{log_start, place_of, KeepsUpTo, GoesOnTo};
@@ -43,7 +43,7 @@ pub extern "C" fn wz_recover_place(
     ensures goes_on { (start : ℕ) (before : List Logged)
         → StandsAt start (number_of number) log.now (place_of place.old) before → result ≢ NO_MEMORY
         → (result ≡ DONE) × GoesOnTo start (number_of number) log.now before place.new end.new }
-    ensures range { length log.now < place.old.at → result ≡ RANGE }
+    ensures range { (result ≡ RANGE) ↔ (length log.now < place.old.at) }
     ensures untold { result ≢ DONE → (place.new ≡ place.old) × (end.new ≡ end.old) }
 {
     places();
@@ -55,7 +55,7 @@ pub extern "C" fn wz_recover_place(
         last: place.last,
     };
     let mut disk = SliceDisk::new(log);
-    // No sequence is as high, so that no record is picked, and none is past the last one that is asked for.
+    // No sequence is as high, so that no record is picked, and reading doesn't stop before an end.
     match updates_from(
         alloc,
         &mut disk,
@@ -73,9 +73,7 @@ pub extern "C" fn wz_recover_place(
                 *end = end_of(last.at, last.why);
                 DONE
             }
-            // No sequence is as high, so that reading doesn't stop before the end. No clause says so of a place that is
-            // none of this log.
-            None => RANGE,
+            None => unreachable!(),
         },
         Err(RecoverError::NoMemory) => NO_MEMORY,
         Err(RecoverError::Fault { .. } | RecoverError::Damage { .. }) => unreachable!(),

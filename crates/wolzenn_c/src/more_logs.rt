@@ -32,7 +32,7 @@ use std::alloc::Global;
 /// it was.
 ///
 /// A log is whole where its recovery ended clean, or, in a log with a number, at an older log's fragment that comes
-/// right after the last record that is kept.
+/// right after the last record that is kept. An older log has a lower number.
 #[unsafe(no_mangle)]
 pub extern "C" fn wz_recover_more(
     alloc: Global,

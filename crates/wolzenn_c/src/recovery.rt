@@ -119,10 +119,10 @@ pub fn mode_of(mode: u32) -> Option<Mode>
 pub fn is_whole(number: Option<u32>, kept: u64, end: End) -> bool
     ensures { result ≡ whole_log number kept end.at end.why }
 {
-    match end.why {
-        EndReason::Clean => true,
-        EndReason::Broken(Damage::OldLog(_)) => {
-            number.is_some() && end.at.saturating_sub(kept) < header_len(number) as u64
+    match (end.why, number) {
+        (EndReason::Clean, _) => true,
+        (EndReason::Broken(Damage::OldLog(other)), Some(own)) => {
+            other < own && end.at.saturating_sub(kept) < header_len(number) as u64
         }
         _ => false,
     }

@@ -17,7 +17,7 @@ pub struct End {
 #[derive(Clone, Copy, Debug, PartialEq, Eq)]
 #[non_exhaustive]
 pub enum Why {
-    /// The log ends after a whole record, or is empty.
+    /// The log ends after a whole record or the zeros behind it in a block, or is empty.
     Clean,
     /// A fragment's header is incomplete.
     ShortHeader,
@@ -39,7 +39,7 @@ pub enum Why {
     Unfinished,
     /// A batch whose header or record is incomplete.
     Short,
-    /// A length in a batch isn't in its shortest spelling, or too long.
+    /// A length or a family in a batch isn't in its shortest spelling, or too large.
     BadVarint,
     /// A record of a batch has a tag that isn't read: this one.
     Tag(u8),

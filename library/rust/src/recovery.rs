@@ -57,9 +57,9 @@ impl Place {
     /// Moves it to the end of the last record that [`recover`] keeps, where the log may be resumed, and answers where
     /// recovery ends. No pairs are made. Of a log that has grown since the last call only what came after that is read;
     /// `log` is nevertheless all that it has by now. [`Error::PastEnd`] if the log ends before the place, which stays
-    /// then. Whether the log is kept up to the place isn't looked at: from any other place it is read as if it were.
-    /// For a log that follows another one, which is whole ([`Recovery::recover_more`] says when), it starts at the
-    /// offset 0 with the last sequence of that one.
+    /// then. Whether the log is kept up to the place isn't looked at: it is read on from there as if it were, but
+    /// where it goes from any other place isn't promised. For a log that follows another one, which is whole
+    /// ([`Recovery::recover_more`] says when), it starts at the offset 0 with the last sequence of that one.
     pub fn advance(&mut self, log: &[u8], number: Option<NonZeroU32>) -> Result<End, Error> {
         raw::recover_place(log, number, self)
     }
@@ -78,10 +78,10 @@ impl Recovery {
     /// [`kept`](Recovery::kept) and [`end`](Recovery::end) are about this log, and the rest about all of them.
     ///
     /// Whether it was: not if an earlier log isn't whole, since recovery ended in that one. A log is whole whose end is
-    /// [`Why::Clean`](crate::Why::Clean), or, if it has a number, [`Why::OldLog`](crate::Why::OldLog) right after the
-    /// last record kept. `Error::Damage` where the mode doesn't accept the end; at an error the recovery stays as it
-    /// was. Each call copies the pairs of all logs so far: a recovery that was [shared](Recovery::share) before keeps
-    /// its own.
+    /// [`Why::Clean`](crate::Why::Clean), or, if it has a number, [`Why::OldLog`](crate::Why::OldLog) with a lower one
+    /// right after the last record kept. `Error::Damage` where the mode doesn't accept the end. At an error the
+    /// recovery stays as it was, as if the log hadn't been given: recover no later one over it. Each call copies the
+    /// pairs of all logs so far: a recovery that was [shared](Recovery::share) before keeps its own.
     pub fn recover_more(&mut self, log: &[u8], number: Option<NonZeroU32>, mode: Mode) -> Result<bool, Error> {
         let Some(summary) = self.held.recover_more(log, number, mode)? else {
             return Ok(false);
@@ -100,7 +100,8 @@ impl Recovery {
         self.summary.last
     }
 
-    /// The offset after the last record that is recovered. The log may be resumed there, once it is cut there.
+    /// The offset after the last record that is recovered, 0 where there is none. The log may be resumed there, once
+    /// it is truncated there.
     pub fn kept(&self) -> u64 {
         self.summary.kept
     }

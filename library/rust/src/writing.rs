@@ -22,15 +22,15 @@ impl<W: Write> LogWriter<W> {
     }
 
     /// A log that is resumed at this offset, as [`Recovery::kept`](crate::Recovery::kept) gives it. What is written to
-    /// the sink must land there: a file is cut to this length first, and its cursor is at its end.
+    /// the sink must land there: a file is truncated to this length first, and its cursor is at its end.
     pub fn resume(sink: W, number: Option<NonZeroU32>, offset: u64) -> LogWriter<W> {
         LogWriter { sink, number, offset, buffer: Vec::new(), has_failed: false }
     }
 
     /// Writes a record, and answers the offset after it. Where that fails, the sink may have a part of it: then no
     /// more is written, each further call fails with [`ErrorKind::Other`](io::ErrorKind::Other), and another writer
-    /// may resume the log at [`offset`](LogWriter::offset), once it is cut there. A log that would have 2^64 bytes or
-    /// more is refused before anything is written.
+    /// may resume the log at [`offset`](LogWriter::offset), once it is truncated there. A log that would have 2^64
+    /// bytes or more is refused before anything is written.
     pub fn append(&mut self, record: &[u8]) -> io::Result<u64> {
         if self.has_failed {
             return Err(io::Error::other("an earlier record was not written"));

@@ -145,6 +145,10 @@ fn logs_in_turn() {
     let later = log_with(2, b"b", Some(b"2"), NonZeroU32::new(8));
     assert_eq!(recovery.recover_more(&later, NonZeroU32::new(8), Mode::Absolute), Ok(true));
     assert_eq!((recovery.len(), recovery.last(), recovery.end().why), (2, 2, Why::Clean));
+    // One with a higher number shows that the log was read with a wrong one: it isn't whole.
+    let mut recovery = recover(&log_with(1, b"a", Some(b"1"), seven), six, Mode::Point).unwrap();
+    assert_eq!((recovery.len(), recovery.end().why), (0, Why::OldLog(7)));
+    assert_eq!(recovery.recover_more(&later, NonZeroU32::new(8), Mode::Point), Ok(false));
 }
 
 #[test]
