@@ -1,7 +1,7 @@
 //! One call of `wzlog`: what the words ask for is shown of a log, on a sink; and what else a person may want to know is
 //! said in sentences on a second one, standard error. No clause says anything of the sentences.
 //!
-//! - `call`: the call, and its statuses
+//! - `call`, `status`: the call, and how it ends
 //! - `listing`: `list` and `scan`
 //! - `state`, `state_text`, `laws`: what the log recovers, and that its text is that of `recover`
 //! - `sentences`, `around`: what is said at an end and at a fault

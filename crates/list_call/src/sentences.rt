@@ -163,7 +163,7 @@ fn meaning_of(why: EndReason) -> &'static str {
         EndReason::Count { .. } =>
             "the record that begins there says another number of operations than it has",
         EndReason::Order { .. } =>
-            "the record that begins there has a sequence that was there already",
+            "the record that begins there doesn't begin above the last sequence before it",
         EndReason::High { .. } => "the record that begins there passes the greatest sequence",
     }
 }
@@ -203,7 +203,7 @@ fn to_do(why: EndReason) -> &'static str {
         EndReason::Unfinished => "truncate a copy there: the last write isn't whole",
         EndReason::Tag(_) => "find out who wrote the log: to apply such an operation takes RocksDB",
         EndReason::Order { .. } =>
-            "ask whether an older file was written over (then the newer log was read), or two logs were joined",
+            "ask whether an older log lay there (then the newer was read), logs were joined, or two programs wrote",
         EndReason::Short
         | EndReason::BadVarint
         | EndReason::Count { .. }

@@ -1,3 +1,7 @@
 mod Additions
+mod Lists
 mod Numbers
 mod Reading
+mod Rows
+mod Taken
+mod Walks

@@ -1,9 +1,9 @@
 -- From what clap promises of a parse to what the words ask for.
 use Rattle.std.proofs.Common.{inl, inr, ◌≡◌, ◌≢◌, ◌∙◌, true, false, List, [], ◌∷◌, Option, Some, None, Result, Ok, Err, IfOk, IfErr, IsErrAnd, refl, sym, ap, subst}
-use Rattle.std.specs.Prelude.{Box, ◌⊎◌}
+use Rattle.std.specs.Prelude.{Box, IsSomeAnd, ◌⊎◌}
 use Rattle.std.specs.Option.{ok_or, option_and_then, option_map}
 use Rattle.std.specs.Box.{box_value}
-use Rattle.clap.specs.Words.{App, IsAmong, Kinds, Row, Text, fault_of, is_simple, is_simple_and_free, subcommand_of, subcommand_rows, subcommand_name_of, subcommand_rows_of}
+use Rattle.clap.specs.Words.{App, IsAmong, Kinds, Row, Text, fault_of, is_simple, is_simple_and_free, kind_of, subcommand_of, subcommand_rows, subcommand_name_of, subcommand_rows_of}
 use Rattle.clap.specs.declared.error.Error.{Error}
 use Rattle.clap.specs.declared.error.kind.ErrorKind.{ErrorKind}
 use Rattle.clap.specs.declared.error.kind.ErrorKind.TheVariants.{OutOfMemory}
@@ -12,10 +12,10 @@ use Rattle.clap.specs.declared.parser.matches.ArgMatches.{ArgMatches}
 use Rattle.clap.specs.declared.parser.matches.ArgMatches.TheViews.{out-ArgMatches, out-SubCommand}
 use Rattle.clap.proofs.OnLiterals.{clap_on_literals}
 use Rattle.list_words.specs.Definition.{wzlog}
-use Rattle.list_words.specs.Texts.{is_taken, texts_in}
-use Rattle.list_words.specs.Asked.{Asked, asked_by, asked_in, refusal_of}
+use Rattle.list_words.specs.Texts.{is_taken, mode_of, texts_in}
+use Rattle.list_words.specs.Asked.{Asked, IsRefusedFor, asked_by, asked_in, mode_word, refusal_of}
 use Rattle.list_words.specs.declared.invocation.WordsError.{WordsError}
-use Rattle.list_words.specs.declared.invocation.WordsError.TheVariants.{NoMemory}
+use Rattle.list_words.specs.declared.invocation.WordsError.TheVariants.{NoMemory, NoMode, Refused}
 
 pub simple_and_free : is_simple_and_free wzlog ≡ true
 unfolding clap_on_literals
@@ -26,7 +26,7 @@ unfolding clap_on_literals
 simple = refl
 
 -- words that clap takes ask for what the matches say
-asked_taken : (words : List Text) → fault_of wzlog words ≡ [] → asked_in words ≡ option_and_then (λ p. asked_by p.0 (texts_in p.1)) (subcommand_of wzlog words)
+pub asked_taken : (words : List Text) → fault_of wzlog words ≡ [] → asked_in words ≡ option_and_then (λ p. asked_by p.0 (texts_in p.1)) (subcommand_of wzlog words)
 unfolding asked_in
 asked_taken words e = rw e refl
 
@@ -103,3 +103,36 @@ module _ {X : Type 0} where
   pub nothing_asked : (r : Result X WordsError) (asked : Option Asked) → asked ≡ None → IfErr r (λ y. y ≢ NoMemory → asked ≡ None)
   nothing_asked (Ok x) asked is = tt
   nothing_asked (Err e) asked is = λ other. is
+
+-- ---- why words are refused
+
+-- an error of clap's is handed on as it is, unless there was no memory
+handed_on : (k : ErrorKind) (why : Error) (P : WordsError → Type 0) → P NoMemory → P (Refused why) → P (refusal_of k why)
+handed_on OutOfMemory why P memory other = memory
+handed_on _ why P memory other = other
+
+-- clap's error is of a kind that its definition gives for the words, or there was no memory
+refused_for : (words : List Text) (why : Error) (k : ErrorKind) → k ≡ kind_of why → (k ≡ OutOfMemory) ⊎ IsAmong k (fault_of wzlog words) → IsRefusedFor (refusal_of k why) words
+refused_for words why k is (inl memory) = subst (λ (x : ErrorKind). IsRefusedFor (refusal_of x why) words) (sym memory) tt
+refused_for words why k is (inr among) = handed_on k why (λ (e : WordsError). IsRefusedFor e words) tt (subst (λ (x : ErrorKind). IsAmong x (fault_of wzlog words)) is among)
+
+pub no_mode_refuses : (words : List Text) → fault_of wzlog words ≡ [] → IsSomeAnd (mode_word words) (λ word. mode_of word ≡ None) → IsRefusedFor NoMode words
+no_mode_refuses words taken named = (ap is_taken taken, named)
+
+module _ {X : Type 0} (words : List Text) where
+  -- an answer that hands clap's error on has its cause
+  pub clap_refuses : (a : App) (why : Error) (r : Result X WordsError) → a ≡ wzlog → (kind_of why ≡ OutOfMemory) ⊎ IsAmong (kind_of why) (fault_of a words)
+      → IsErrAnd r (λ e. e ≡ refusal_of (kind_of why) why) → IfErr r (λ e. IsRefusedFor e words)
+  clap_refuses a why (Ok x) app among is = absurd is
+  clap_refuses a why (Err e) app among is =
+      let here = subst (λ (b : App). (kind_of why ≡ OutOfMemory) ⊎ IsAmong (kind_of why) (fault_of b words)) app among in
+      subst (λ (y : WordsError). IsRefusedFor y words) (sym is) (refused_for words why (kind_of why) refl here)
+
+  -- and so has one that misses a mode
+  pub mode_refuses : (o : Option X) (r : Result X WordsError) → r ≡ ok_or o NoMode → (o ≡ None → IsRefusedFor NoMode words) → IfErr r (λ e. IsRefusedFor e words)
+  mode_refuses None r is cause = subst (λ (q : Result X WordsError). IfErr q (λ e. IsRefusedFor e words)) (sym is) (cause refl)
+  mode_refuses (Some x) r is cause = subst (λ (q : Result X WordsError). IfErr q (λ e. IsRefusedFor e words)) (sym is) tt
+
+  pub error_refuses : (r : Result X WordsError) (e : WordsError) → IsErrAnd r (λ y. y ≡ e) → IsRefusedFor e words → IfErr r (λ y. IsRefusedFor y words)
+  error_refuses (Ok x) e is cause = tt
+  error_refuses (Err y) e is cause = subst (λ (z : WordsError). IsRefusedFor z words) (sym is) cause

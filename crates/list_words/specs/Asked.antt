@@ -1,7 +1,7 @@
 -- What the words of a call ask for, by what clap makes of them.
-use Rattle.std.specs.Prelude.{ℕ, Bool, true, false, List, Option, None, String, string_bytes, map, codes, bytes_eq, option_and_then, option_map, if◌then◌else◌}
+use Rattle.std.specs.Prelude.{◌≡◌, ℕ, Bool, true, false, List, Option, None, String, string_bytes, map, codes, bytes_eq, option_and_then, option_map, if◌then◌else◌, IsSomeAnd, ⊤}
 use Rattle.std.specs.declared.alloc.Global.{Global}
-use Rattle.clap.specs.Words.{Text, fault_of, subcommand_of}
+use Rattle.clap.specs.Words.{IsAmong, Text, fault_of, first_of, kind_of, subcommand_of}
 use Rattle.clap.specs.declared.error.Error.{Error}
 use Rattle.clap.specs.declared.error.kind.ErrorKind.{ErrorKind}
 use Rattle.clap.specs.declared.error.kind.ErrorKind.TheVariants.{OutOfMemory}
@@ -86,9 +86,13 @@ unfoldable pub asked_in : List Text → Option Asked
 asked_in words = if is_taken (fault_of wzlog words)
     then option_and_then (λ p. asked_by p.0 (texts_in p.1)) (subcommand_of wzlog words) else None
 
+-- what the words say, byte for byte
+abbrev pub texts_of : List (String Global) → List Text
+texts_of words = map (λ w. string_bytes w) words
+
 -- what the words ask for: the program's name, the command, and the log's path with options
 abbrev pub asked_of : List (String Global) → Option Asked
-asked_of words = asked_in (map (λ w. string_bytes w) words)
+asked_of words = asked_in (texts_of words)
 
 -- ---- what the values of the code show
 
@@ -119,3 +123,16 @@ log_of (invocation.State words) = words.log.now
 abbrev pub refusal_of : ErrorKind → Error → WordsError
 refusal_of OutOfMemory why = error.NoMemory
 refusal_of _ why = error.Refused why
+
+-- the word that clap has for `--mode`
+abbrev pub mode_word : List Text → Option Text
+mode_word words = option_and_then (λ p. first_of (codes "mode") p.1) (subcommand_of wzlog words)
+
+-- Why words are refused: clap refuses them, or shows its help or version, and its error has a kind that clap's own
+-- definition gives for them; or clap takes them, and the word of `--mode` is the name of no mode. Memory may always be
+-- wanting.
+abbrev pub IsRefusedFor : WordsError → List Text → Type 0
+IsRefusedFor (error.Refused why) words = IsAmong (kind_of why) (fault_of wzlog words)
+IsRefusedFor error.NoMode words =
+    (is_taken (fault_of wzlog words) ≡ true) × IsSomeAnd (mode_word words) (λ word. mode_of word ≡ None)
+IsRefusedFor error.NoMemory words = ⊤

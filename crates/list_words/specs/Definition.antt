@@ -38,16 +38,16 @@ listed_rule (Place name help) = place name.now
 abbrev log_number : Rule
 log_number = number (codes "number") 1 (2 ^ 32 - 1)
 
-abbrev list_rules : List Rule
+abbrev pub list_rules : List Rule
 list_rules = place (codes "LOG") ∷ log_number ∷ with_default (codes "0") (number (codes "from") 0 (2 ^ 64 - 1))
     ∷ with_default (codes "18446744073709551615") (number (codes "to") 0 (2 ^ 64 - 1)) ∷ named_rule (codes "key")
     ∷ flag (codes "text") ∷ flag (codes "json") ∷ flag (codes "summary") ∷ []
 
-abbrev state_rules : List Rule
+abbrev pub state_rules : List Rule
 state_rules = place (codes "LOG") ∷ log_number ∷ with_default (codes "point") (named_rule (codes "mode"))
     ∷ flag (codes "text") ∷ flag (codes "json") ∷ []
 
-abbrev shape : Text → List Rule → Shape
+abbrev pub shape : Text → List Rule → Shape
 shape name rules = record (new_shape name) { rules = rules }
 
 -- the program, which requires a command, and has help and a version

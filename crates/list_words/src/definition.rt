@@ -68,7 +68,7 @@ const SUMMARY: Argument = Argument::Flag("summary", "Counts in place of records"
 const MODE: Argument = Argument::WordOr(
     "mode",
     "point",
-    "Which ends of the log are accepted: point (any), tail (an incomplete last write) or absolute (none)",
+    "Which ends are accepted: point (any), tail (a whole log's, or an incomplete last write), absolute (a whole log's)",
 );
 
 const LIST: [Argument; 8] = [LOG, NUMBER, FROM, TO, KEY, TEXT, JSON, SUMMARY];

@@ -100,6 +100,9 @@ pub fn read_words<'a>(alloc: Global, words: &'a [String]) -> Result<Invocation<'
     ensures ok { IfOk result (λ asked. asked_of words.now ≡ Some (shown_asked asked)) }
     // Only words of which nothing can be made are refused. The one other error is want of memory.
     ensures refused { IfErr result (λ e. e ≢ NoMemory → asked_of words.now ≡ None) }
+    // Each refusal has its cause: clap's error is of a kind that clap's definition gives for these words, so that its
+    // help is never said to be a wrong mode; and a mode is missed only where the word of `--mode` is the name of none.
+    ensures why { IfErr result (λ e. asked_words.IsRefusedFor e (asked_words.texts_of words.now)) }
 {
     let matches = definition::wzlog(alloc)?.try_get_matches_from(words)?;
     let (command, options) = matches.subcommand().ok_or(WordsError::NoMode)?;

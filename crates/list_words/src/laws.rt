@@ -1,8 +1,11 @@
 //! What some words mean, as laws that have no code.
 
 ghost use Rattle.std.specs.Prelude.{◌≡◌, [], ◌∷◌, Some, None, true, false, codes};
+ghost use Rattle.clap.specs.Words.{fault_of};
+ghost use Rattle.clap.specs.declared.error.kind.ErrorKind.TheVariants.{DisplayHelp, DisplayVersion, MissingSubcommand, MissingRequiredArgument, UnknownArgument, ValueValidation};
 ghost use Rattle.log_recovery.specs.declared.modes.Mode.TheVariants.{Point, Tail};
 ghost use Rattle.list_words.specs.Asked.{asked_in, list, state};
+ghost use Rattle.list_words.specs.Definition.{wzlog};
 
 /// Words that ask for something.
 pub fn words_that_ask()
@@ -71,4 +74,20 @@ pub fn words_that_do_not_ask()
     ensures no_mode { asked_in (codes "wzlog" ∷ codes "state" ∷ codes "x.log" ∷ codes "--mode" ∷ codes "skip" ∷ [])
         ≡ None }
     ensures help { asked_in (codes "wzlog" ∷ codes "list" ∷ codes "--help" ∷ []) ≡ None }
+{}
+
+/// What clap's own definition answers to words that ask for nothing: its help or its version, which are no refusals, or
+/// the kind of its error. A mode that has no such name it takes.
+pub fn words_that_clap_answers()
+    ensures help { fault_of wzlog (codes "wzlog" ∷ codes "list" ∷ codes "--help" ∷ []) ≡ DisplayHelp ∷ [] }
+    ensures whole_help { fault_of wzlog (codes "wzlog" ∷ codes "--help" ∷ []) ≡ DisplayHelp ∷ [] }
+    ensures version { fault_of wzlog (codes "wzlog" ∷ codes "--version" ∷ []) ≡ DisplayVersion ∷ [] }
+    ensures nothing { fault_of wzlog (codes "wzlog" ∷ []) ≡ MissingSubcommand ∷ [] }
+    ensures no_path { fault_of wzlog (codes "wzlog" ∷ codes "list" ∷ []) ≡ MissingRequiredArgument ∷ [] }
+    ensures two_paths { fault_of wzlog (codes "wzlog" ∷ codes "list" ∷ codes "x.log" ∷ codes "y.log" ∷ [])
+        ≡ UnknownArgument ∷ [] }
+    ensures no_number { fault_of wzlog (codes "wzlog" ∷ codes "list" ∷ codes "x.log" ∷ codes "--number" ∷ codes "0"
+        ∷ []) ≡ ValueValidation ∷ [] }
+    ensures no_mode { fault_of wzlog (codes "wzlog" ∷ codes "state" ∷ codes "x.log" ∷ codes "--mode" ∷ codes "skip"
+        ∷ []) ≡ [] }
 {}

@@ -7,4 +7,4 @@ mod invocation;
 mod laws;
 
 pub use invocation::{Invocation, ListWords, StateWords, WordsError, read_words};
-pub use laws::{words_that_ask, words_that_do_not_ask};
+pub use laws::{words_that_ask, words_that_clap_answers, words_that_do_not_ask};
