@@ -12,3 +12,5 @@ pub mod Logged
 pub mod Written
 pub mod Killed
 pub mod Wrong
+pub mod LaterLog
+pub mod SeveralLogs

@@ -13,9 +13,14 @@
 //! at which a process is killed. Calls that ran no script are left out, since they leave no less (`IsLeftLog` of
 //! `program_call`).
 //!
+//! No call goes on from several logs, since a run over them isn't resumed. What a crash leaves of them is recovered all
+//! the same, and the laws in `several` say that this is always one thing.
+//!
 //! Each law is the contract of a function that does nothing and that nobody calls: it is here so that the law is proved
 //! with the crate.
 #![tactic(auto)]
+
+mod several;
 
 ghost use Rattle.std.specs.Prelude.{◌≡◌, ◌≢◌, ℕ, ◌+◌, ◌≤◌, List, [], ◌∷◌, length, Option, Some, None, slice_get};
 ghost use Rattle.model_base.specs.Attempts.{Attempt};
@@ -35,6 +40,7 @@ ghost use Rattle.crash_laws.specs.Restarts.{IsAlone, IsLeftAfter, NoneByChance, 
 ghost use Rattle.crash_laws.specs.Restarts.{Resumes, calls_in, execution_of, number_of};
 
 use base_devices::Disk;
+pub use several::{a_later_log_recovers_one_thing, several_logs_recover_one_thing};
 
 /// An image is left, and the next call finds it: it goes on from what that recovers.
 pub fn crash_then_go_on<D: Disk>()

@@ -6,3 +6,6 @@ pub mod Whole
 pub mod Tallied
 pub mod Counted
 pub mod Counting
+pub mod ChangedByte
+pub mod Parts
+pub mod RowTexts

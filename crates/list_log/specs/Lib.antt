@@ -3,3 +3,4 @@ pub mod Texts
 pub mod Steps
 pub mod Showing
 pub mod Totals
+pub mod Rows

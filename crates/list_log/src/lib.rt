@@ -8,10 +8,12 @@
 //! - `listing`: a step
 //! - `showing`: the whole log, step by step
 //! - `tallies`, `totals`, `summary`: how many there are, in place of the records
+//! - `rows`: what is shown of a small log, worked out
 #![tactic(auto)]
 
 mod lines;
 mod listing;
+mod rows;
 mod settings;
 mod showing;
 mod summary;
@@ -20,6 +22,7 @@ mod totals;
 mod wanted;
 
 pub use listing::{Listed, Listing};
+pub use rows::{a_changed_byte_is_counted, a_changed_byte_is_shown};
 pub use settings::Settings;
 pub use showing::{Shown, show};
 pub use summary::summarize;

@@ -36,6 +36,15 @@ lead_on number file between target v (arrives e) on = on v e
 lead_on number file between target v (past_fragment f e more) on = past_fragment f e (lead_on number file between target (behind number v f) more on)
 lead_on number file between target v (past_damage {at = at} d e more) on = past_damage d e (lead_on number file between target (after_damage number file at) more on)
 
+-- it depends only on what the reader sees next
+pub same_way : (number : Option ℕ) (file : List ℕ) (target : Next) (v w : ℕ) → next_seen number file w ≡ next_seen number file v → Leads number file target v → Leads number file target w
+same_way number file target v w same (arrives e) = arrives (same ∙ e)
+same_way number file target v w same (past_fragment {at = at} f e more) =
+    let is : record { at = at; seen = fragment f } ≡ next_seen number file w = e ∙ sym same in
+    let place : next_place number v ≡ next_place number w = sym (next_begins number file v at f e) ∙ next_begins number file w at f is in
+    past_fragment f is (subst (λ (n : ℕ). Leads number file target (n + header_len number + length f.part)) place more)
+same_way number file target v w same (past_damage d e more) = past_damage d (e ∙ sym same) more
+
 -- over the first fragments of those that follow one another
 pub lead_over : (number : Option ℕ) (file : List ℕ) (target : Next) (v : ℕ) (fs gs : List Fragment) → HasFragments number file v (fs ++ gs) → Leads number file target (end_of number v fs) → Leads number file target v
 lead_over number file target v [] gs stand leads = subst (Leads number file target) (end_none number v) leads
@@ -108,7 +117,7 @@ abbrev pub first_of : Option ℕ → List ℕ → ℕ → Next
 first_of number file block = record { at = start_of block; seen = seen_at number file (start_of block) }
 
 -- at a block's start the reader sees what is there
-seen_first : (number : Option ℕ) (file : List ℕ) (block : ℕ) → start_of block < length file → next_seen number file (start_of block) ≡ first_of number file block
+pub seen_first : (number : Option ℕ) (file : List ℕ) (block : ℕ) → start_of block < length file → next_seen number file (start_of block) ≡ first_of number file block
 seen_first number file block inside = by_seen (seen_at number file (start_of block)) refl
   where
     by_seen : (s : Seen) → seen_at number file (start_of block) ≡ s → behind_zeros number file (start_of block) (seen_at number file (start_of block)) ≡ record { at = start_of block; seen = seen_at number file (start_of block) }
@@ -194,9 +203,13 @@ module _ (number : Option ℕ) (file : List ℕ) (block : ℕ) (inside : start_o
           let in_next : Within (behind number w f) = subst (λ (n : ℕ). Within (n + header_len number + length f.part)) (next_begins number file w (start_of block) f is) (after_fragment (start_of block) f (omega arith) (omega arith) seen) in
           past_fragment f is (walk (suc (start_of (suc block))) (behind number w f) in_next (omega arith))
 
--- So the way leads from the file's start to each block's.
-pub leads_to_block : (number : Option ℕ) (file : List ℕ) (block : ℕ) → start_of block < length file → Leads number file (first_of number file block) 0
-unfolding LeadsNext
-leads_to_block number file zero inside = arrives (seen_first number file 0 inside)
-leads_to_block number file (suc block) inside =
-    lead_on number file (first_of number file block) (first_of number file (suc block)) 0 (leads_to_block number file block (omega (arith, inside))) (next_block_comes number file block inside)
+-- So the way leads from any place to the start of each block after it.
+pub leads_to_block : (number : Option ℕ) (file : List ℕ) (block from : ℕ) → from ≤ start_of block → start_of block < length file → Leads number file (first_of number file block) from
+unfolding LeadsNext Within
+leads_to_block number file zero from up inside =
+    let here : 0 ≡ from = omega (arith, up) in
+    subst (Leads number file (first_of number file 0)) here (arrives (seen_first number file 0 inside))
+leads_to_block number file (suc block) from up inside = cases_bool (nat_lt (start_of block) from)
+    (λ less. walk number file block inside (suc (start_of (suc block))) from (ltb-true (start_of block) from less, up) (omega arith))
+    (λ not_less. lead_on number file (first_of number file block) (first_of number file (suc block)) from
+    (leads_to_block number file block from (ltb-false (start_of block) from not_less) (omega (arith, inside))) (next_block_comes number file block inside))

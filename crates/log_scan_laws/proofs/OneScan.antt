@@ -1,5 +1,5 @@
--- A file has one scan at most. Scans are put together from the left, and compared from the right: so a scan is first
--- turned into a run, which goes on from a place to the end.
+-- From a place of a file there is one scan at most. Scans are put together from the left, and compared from the right:
+-- so a scan is first turned into a run, which goes on from a place to the end.
 use Rattle.std.proofs.Common.{◌≡◌, ℕ, Bool, true, false, List, [], ◌++◌, Option, Some, None, refl, sym, ◌∙◌, ap, subst, append_assoc, append-nil}
 use Rattle.model_base.specs.declared.log.EndReason.{EndReason}
 use Rattle.model_base.specs.Reading.{IsRecord, ReadingEnds}
@@ -7,6 +7,7 @@ use Rattle.log_recovery_laws.specs.Reads.{Answer, found}
 use Rattle.log_recovery_laws.proofs.OneReading.{one_answer, one_end, no_end}
 use Rattle.log_scan.specs.declared.scanner.Lost.{Lost}
 use Rattle.log_scan.specs.Scanning.{Item, Scan, IsScan, Finds, found_none, found_more, Skips, not_skipped, skipped_first, skipped_again, items_with, first_end, later_place}
+use Rattle.log_scan_laws.specs.FromPlace.{IsScanFrom}
 
 -- From the place `here`, with what was lost since the end of a record, these items are found, and then the end.
 pub data Runs (number : Option ℕ) (goes_on : Bool) (file : List ℕ) : ℕ → ℕ → Option Lost → List Item → ℕ → EndReason → Type 0 where
@@ -38,13 +39,17 @@ run_found number goes_on file from place at why before items (found_more {items 
     subst (λ (l : List Item). Runs number goes_on file from from None l at why) (sym (append_assoc earlier (items_with lost p s e bytes) items))
     (run_found number goes_on file from p at why earlier more found_before on)
 
--- a scan is a run from the file's start
-pub run_of : (number : Option ℕ) (goes_on : Bool) (file : List ℕ) (scan : Scan) → IsScan number goes_on file scan → Runs number goes_on file 0 0 None scan.items scan.at scan.why
-run_of number goes_on file scan is =
-    let e = is.ends in
-    subst (λ (l : List Item). Runs number goes_on file 0 0 None l scan.at scan.why) (append-nil scan.items)
-    (run_found number goes_on file 0 is.place scan.at scan.why scan.items [] is.finds
-    (run_skipped number goes_on file is.place e.here scan.at scan.why e.lost [] e.skips (ends e.last e.ends e.no_more e.first_is)))
+-- a scan is a run from where it begins
+pub run_from : (number : Option ℕ) (goes_on : Bool) (file : List ℕ) (from : ℕ) (scan : Scan) → IsScanFrom number goes_on file from scan → Runs number goes_on file from from None scan.items scan.at scan.why
+run_from number goes_on file from scan is =
+    let e = is.2 in
+    subst (λ (l : List Item). Runs number goes_on file from from None l scan.at scan.why) (append-nil scan.items)
+    (run_found number goes_on file from is.0 scan.at scan.why scan.items [] is.1
+    (run_skipped number goes_on file is.0 e.here scan.at scan.why e.lost [] e.skips (ends e.last e.ends e.no_more e.first_is)))
+
+-- a scan of the file begins at its start
+pub from_start : (number : Option ℕ) (goes_on : Bool) (file : List ℕ) (scan : Scan) → IsScan number goes_on file scan → IsScanFrom number goes_on file 0 scan
+from_start number goes_on file scan is = (is.place, is.finds, is.ends)
 
 -- two ends of reading from one place are the same
 same_end : (number : Option ℕ) (file : List ℕ) (here there : ℕ) (a b : Lost) → here ≡ there → ReadingEnds number file here a.at a.why → ReadingEnds number file there b.at b.why → a ≡ b
@@ -134,11 +139,15 @@ one_run number goes_on file place here from there at other why reason lost befor
     let tail = one_run number goes_on file e e f f at other why reason None None left right same.end same.end refl more rest in
     (same_items lost before place from s t e f xs ys left right l p same tail.0, tail.1, tail.2)
 
-pub one_scan : (number : Option ℕ) (goes_on : Bool) (file : List ℕ) (one other : Scan) → IsScan number goes_on file one → IsScan number goes_on file other → one ≡ other
-one_scan number goes_on file one other x y =
-    let same = one_run number goes_on file 0 0 0 0 one.at other.at one.why other.why None None one.items other.items refl refl refl (run_of number goes_on file one x) (run_of number goes_on file other y) in
+pub one_scan_from : (number : Option ℕ) (goes_on : Bool) (file : List ℕ) (from : ℕ) (one other : Scan) → IsScanFrom number goes_on file from one → IsScanFrom number goes_on file from other → one ≡ other
+one_scan_from number goes_on file from one other x y =
+    let same = one_run number goes_on file from from from from one.at other.at one.why other.why None None one.items other.items refl refl refl
+    (run_from number goes_on file from one x) (run_from number goes_on file from other y) in
     ap (λ (l : List Item). record one { items = l }) same.0
     ∙ (ap (λ (n : ℕ). record { items = other.items; at = n; why = one.why }) same.1 ∙ ap (λ (r : EndReason). record other { why = r }) same.2)
+
+pub one_scan : (number : Option ℕ) (goes_on : Bool) (file : List ℕ) (one other : Scan) → IsScan number goes_on file one → IsScan number goes_on file other → one ≡ other
+one_scan number goes_on file one other x y = one_scan_from number goes_on file 0 one other (from_start number goes_on file one x) (from_start number goes_on file other y)
 
 -- A run that doesn't go on after damage is the front of one that does.
 front_run : (number : Option ℕ) (file : List ℕ) (place here from there at other : ℕ) (why reason : EndReason) (lost before : Option Lost) (items others : List Item) → place ≡ from → here ≡ there → lost ≡ before
@@ -157,4 +166,5 @@ front_run number file place here from there at other why reason lost before item
 
 pub list_front : (number : Option ℕ) (file : List ℕ) (list scan : Scan) → IsScan number false file list → IsScan number true file scan → (more : List Item) × (scan.items ≡ list.items ++ more)
 list_front number file list scan x y =
-    front_run number file 0 0 0 0 list.at scan.at list.why scan.why None None list.items scan.items refl refl refl (run_of number false file list x) (run_of number true file scan y)
+    front_run number file 0 0 0 0 list.at scan.at list.why scan.why None None list.items scan.items refl refl refl
+    (run_from number false file 0 list (from_start number false file list x)) (run_from number true file 0 scan (from_start number true file scan y))

@@ -8,9 +8,9 @@ use Rattle.std.specs.List.{AllByRecursion}
 use Rattle.model_base.specs.declared.log.Damage.{Damage}
 use Rattle.model_base.specs.declared.log.EndReason.{EndReason}
 use Rattle.model_base.specs.Log.{Kind, full, first, middle, last, Fragment, AreOneRecord, GoesToLast, kinds_of, record_of, header_len, fragments_text, fragment_bytes, room, trailer, next_place, FitFrom}
-use Rattle.model_base.specs.Reading.{Seen, Next, fragment, nothing, damage, seen_at, next_seen, behind_zeros, kind_of_code, type_field, length_field, AreBegun, HasFragments, end_of, ReadingEnds, clean, broken, bad_order, unfinished}
+use Rattle.model_base.specs.Reading.{Next, fragment, nothing, damage, seen_at, next_seen, behind_zeros, kind_of_code, type_field, length_field, AreBegun, HasFragments, end_of, ReadingEnds, clean, broken, bad_order, unfinished}
 use Rattle.log_laws.proofs.Placed.{behind, end_none, end_more, placed_append}
-use Rattle.log_laws.proofs.ReadSynced.{next_first, sees_first, stand_rest, stand_behind}
+use Rattle.log_laws.proofs.ReadSynced.{next_first, stand_rest, stand_behind}
 use Rattle.log_recovery_laws.proofs.NextFragment.{next_begins}
 use Rattle.log_recovery_laws.proofs.SeenFragment.{fragment_is}
 use Rattle.log_recovery_laws.proofs.Reading.{stand_more}
@@ -20,8 +20,9 @@ use Rattle.log_scan.specs.Resuming.{fragment_len, begins_record, there, after_da
 use Rattle.log_scan.specs.Scanning.{Item, whole, unread, Scan, IsScan, items_with, later_place}
 use Rattle.log_scan.proofs.Places.{some_header, seen_there, kind_there, length_in_front}
 use Rattle.log_scan.proofs.Later.{end_later}
-use Rattle.log_scan_laws.proofs.Leading.{Leads, arrives, past_fragment, past_damage, leads_up, lead_on, lead_over, start_of, at_start, first_of, leads_to_block}
-use Rattle.log_scan_laws.proofs.OneScan.{Runs, run_of}
+use Rattle.log_scan_laws.specs.FromPlace.{IsScanFrom, HasRecord}
+use Rattle.log_scan_laws.proofs.Leading.{Leads, arrives, past_fragment, past_damage, leads_up, same_way, lead_on, lead_over, start_of, at_start, first_of, seen_first, leads_to_block}
+use Rattle.log_scan_laws.proofs.OneScan.{Runs, run_from, from_start}
 use Rattle.log_scan_laws.proofs.OneScan as run
 
 -- The record: its first fragment is at the place where it begins.
@@ -303,12 +304,10 @@ stand_at number file v f fs has =
       );
     }
 
--- A record in the order of its block: from the block's start on these fragments follow one another, and the last of
--- them are the record's.
-module _ (number : Option ℕ) (file : List ℕ) (block : ℕ) (before : List Fragment) (f : Fragment) (fs : List Fragment)
-    (stand : HasFragments number file (start_of block) (before ++ f ∷ fs)) where
+-- A record behind others: from a place on these fragments follow one another, and the last of them are the record's.
+module _ (number : Option ℕ) (file : List ℕ) (v : ℕ) (before : List Fragment) (f : Fragment) (fs : List Fragment) (stand : HasFragments number file v (before ++ f ∷ fs)) where
   pub end : ℕ
-  end = end_of number (start_of block) before
+  end = end_of number v before
 
   pub place : ℕ
   place = next_place number end
@@ -318,55 +317,59 @@ module _ (number : Option ℕ) (file : List ℕ) (block : ℕ) (before : List Fr
 
   at_end : HasFragments number file end (f ∷ fs)
   unfolding end
-  at_end = stand_behind number file (start_of block) before (f ∷ fs) stand
+  at_end = stand_behind number file v before (f ∷ fs) stand
 
   seen_at_end : next_seen number file end ≡ its
   unfolding its place
   seen_at_end = next_first number file end f fs at_end
 
-  block_inside : start_of block < length file
+  pub place_inside : v < length file
   unfolding end
-  block_inside = omega (arith, ap length at_end.there, length-drop end file, length-append (fragments_text number end (f ∷ fs)) at_end.rest, end_later number end f fs)
+  place_inside = omega (arith, ap length at_end.there, length-drop end file, length-append (fragments_text number end (f ∷ fs)) at_end.rest, end_later number end f fs)
 
-  -- from where the reader sees what is at the block's start
-  from_block : (w : ℕ) → next_seen number file w ≡ first_of number file block → Leads number file its w
-  unfolding its place end
-  from_block w e = by_before before refl
-    where
-      by_before : (l : List Fragment) → before ≡ l → Leads number file its w
-      by_before [] none =
-          let here : end ≡ start_of block = ap (end_of number (start_of block)) none ∙ end_none number (start_of block) in
-          let at_place : place ≡ start_of block = ap (next_place number) here ∙ at_start number block in
-          let seen : seen_at number file (start_of block) ≡ fragment f = ap (seen_at number file) (sym at_place) ∙ sees_first number file end f fs at_end in
-          arrives (e ∙ (ap (λ (s : Seen). record { at = start_of block; seen = s }) seen ∙ ap (λ (n : ℕ). record { at = n; seen = fragment f }) (sym at_place)))
-      by_before (b ∷ bs) some =
-          let has : HasFragments number file (start_of block) (b ∷ (bs ++ f ∷ fs)) = subst (λ (l : List Fragment). HasFragments number file (start_of block) (l ++ f ∷ fs)) some stand in
-          let seen : seen_at number file (start_of block) ≡ fragment b = ap (seen_at number file) (sym (at_start number block)) ∙ sees_first number file (start_of block) b (bs ++ f ∷ fs) has in
-          let is : record { at = start_of block; seen = fragment b } ≡ next_seen number file w = sym (e ∙ ap (λ (s : Seen). record { at = start_of block; seen = s }) seen) in
-          let same : behind number (start_of block) b ≡ behind number w b = ap (λ (n : ℕ). n + header_len number + length b.part) (at_start number block ∙ next_begins number file w (start_of block) b is) in
-          let ends : end ≡ end_of number (behind number (start_of block) b) bs = ap (end_of number (start_of block)) some ∙ end_more number (start_of block) b bs in
-          past_fragment b is (subst (Leads number file its) same
-          (lead_over number file its (behind number (start_of block) b) bs (f ∷ fs) (stand_rest number file (start_of block) b (bs ++ f ∷ fs) has) (subst (Leads number file its) ends (arrives seen_at_end))))
+  -- from there the way leads to it
+  pub leads_to_it : Leads number file its v
+  unfolding end
+  leads_to_it = lead_over number file its v before (f ∷ fs) stand (arrives seen_at_end)
 
-  pub found_there : (scan : Scan) → IsScan number true file scan → AreOneRecord (kinds_of (f ∷ fs))
-      → (front rest : List Item) × (scan.items ≡ front ++ whole place (end_of number (start_of block) (before ++ f ∷ fs)) (record_of (f ∷ fs)) ∷ rest)
+  -- so each run that is on the way there finds it
+  pub found_there : (from at : ℕ) (why : EndReason) (items : List Item) → Runs number true file from from None items at why → Leads number file its from → AreOneRecord (kinds_of (f ∷ fs))
+      → HasRecord number v before (f ∷ fs) items
   unfolding its place end target
-  found_there scan is one =
+  found_there from at why items goes way one =
       let at_place : HasFragments number file place (f ∷ fs) = stand_at number file end f fs at_end in
-      let way : Leads number file its 0 = lead_on number file (first_of number file block) its 0 (leads_to_block number file block block_inside) from_block in
-      let found = found_in number file place f fs one at_place (twice_is number end) 0 0 scan.at scan.why None scan.items (run_of number true file scan is) way in
-      let joined : end_of number end (f ∷ fs) ≡ end_of number (start_of block) (before ++ f ∷ fs) = omega (
-        arith,
-        ap length (placed_append number (start_of block) before (f ∷ fs)),
-        length-append (fragments_text number (start_of block) before) (fragments_text number end (f ∷ fs)),
-      ) in
-      let ends : end_of number place (f ∷ fs) ≡ end_of number (start_of block) (before ++ f ∷ fs) =
+      let found = found_in number file place f fs one at_place (twice_is number end) from from at why None items goes way in
+      let joined : end_of number end (f ∷ fs) ≡ end_of number v (before ++ f ∷ fs) =
+      omega (arith, ap length (placed_append number v before (f ∷ fs)), length-append (fragments_text number v before) (fragments_text number end (f ∷ fs))) in
+      let ends : end_of number place (f ∷ fs) ≡ end_of number v (before ++ f ∷ fs) =
       sym (end_here number file place f fs one at_place (twice_is number end) end refl) ∙ joined in
       (found.0, found.1, found.2 ∙ ap (λ (n : ℕ). found.0 ++ whole place n (record_of (f ∷ fs)) ∷ found.1) ends)
 
+-- A scan from the place itself is on the way.
+pub found_from_there : (number : Option ℕ) (file : List ℕ) (from : ℕ) (scan : Scan) (before fragments : List Fragment) → IsScanFrom number true file from scan
+    → HasFragments number file from (before ++ fragments) → AreOneRecord (kinds_of fragments) → HasRecord number from before fragments scan.items
+found_from_there number file from scan before [] is stand one = absurd one
+found_from_there number file from scan before (f ∷ fs) is stand one =
+    found_there number file from before f fs stand from scan.at scan.why scan.items (run_from number true file from scan is) (leads_to_it number file from before f fs stand) one
+
+-- So is a scan from a place before it, if the place is the start of a block.
+pub found_in_order : (number : Option ℕ) (file : List ℕ) (from : ℕ) (scan : Scan) (block : ℕ) (before fragments : List Fragment) → IsScanFrom number true file from scan → from ≤ 32768 * block
+    → HasFragments number file (32768 * block) (before ++ fragments) → AreOneRecord (kinds_of fragments) → HasRecord number (32768 * block) before fragments scan.items
+found_in_order number file from scan block before [] is up stand one = absurd one
+found_in_order number file from scan block before (f ∷ fs) is up stand one =
+    found_there number file (start_of block) before f fs stand from scan.at scan.why scan.items (run_from number true file from scan is)
+    (lead_on number file (first_of number file block) itself from (leads_to_block number file block from up inside) from_block) one
+  where
+    itself : Next
+    itself = its number file (start_of block) before f fs stand
+
+    inside : start_of block < length file
+    inside = place_inside number file (start_of block) before f fs stand
+
+    from_block : (w : ℕ) → next_seen number file w ≡ first_of number file block → Leads number file itself w
+    from_block w e =
+        same_way number file itself (start_of block) w (e ∙ sym (seen_first number file block inside)) (leads_to_it number file (start_of block) before f fs stand)
+
 pub whole_found : (number : Option ℕ) (file : List ℕ) (scan : Scan) (block : ℕ) (before fragments : List Fragment) → IsScan number true file scan
-    → HasFragments number file (32768 * block) (before ++ fragments) → AreOneRecord (kinds_of fragments)
-    → (front rest : List Item) × (scan.items ≡ front ++ whole (next_place number (end_of number (32768 * block) before)) (end_of number (32768 * block) (before ++ fragments)) (record_of fragments) ∷ rest)
-unfolding place end
-whole_found number file scan block before [] is stand one = absurd one
-whole_found number file scan block before (f ∷ fs) is stand one = found_there number file block before f fs stand scan is one
+    → HasFragments number file (32768 * block) (before ++ fragments) → AreOneRecord (kinds_of fragments) → HasRecord number (32768 * block) before fragments scan.items
+whole_found number file scan block before fragments is stand one = found_in_order number file 0 scan block before fragments (from_start number true file scan is) (omega arith) stand one

@@ -1,4 +1,5 @@
-//! Laws of scans: a file has one scan, and all whole records in the order of a block are in it.
+//! Laws of scans: a file has one scan, and all whole records in the order of a block are in it. Both are said of a scan
+//! that begins at a place, too; and such a scan goes on with an earlier one, also if the log has grown since.
 //!
 //! `log_scan` defines what a scan finds by a relation. Such a relation might give a file no scan, or two; or a scan
 //! that shows nothing after damage. These laws say that there is one scan, and that whatever is damaged it shows each
@@ -10,11 +11,12 @@
 
 mod rows;
 
-ghost use Rattle.std.specs.Prelude.{◌≡◌, ◌*◌, ◌<◌, ℕ, Bool, true, false, List, ◌∷◌, ◌++◌, Option};
+ghost use Rattle.std.specs.Prelude.{◌≡◌, ◌*◌, ◌<◌, ◌≤◌, ℕ, Bool, true, false, List, ◌∷◌, ◌++◌, Option};
 ghost use Rattle.std.specs.List.{AllByRecursion};
 ghost use Rattle.model_base.specs.Log.{Fragment, AreOneRecord, kinds_of, record_of, next_place};
 ghost use Rattle.model_base.specs.Reading.{HasFragments, end_of};
-ghost use Rattle.log_scan.specs.Scanning.{Item, IsScan, Scan, whole};
+ghost use Rattle.log_scan.specs.Scanning.{Item, Finds, IsScan, Scan, whole};
+ghost use Rattle.log_scan_laws.specs.FromPlace.{IsScanFrom, HasRecord};
 
 pub use rows::a_changed_byte_is_passed_over;
 
@@ -40,4 +42,38 @@ pub fn whole_records_are_found()
         → AreOneRecord (kinds_of fragments) → (front rest : List Item) × (scan.items ≡ front ++ whole
         (next_place number (end_of number (32768 * block) before))
         (end_of number (32768 * block) (before ++ fragments)) (record_of fragments) ∷ rest) }
+{}
+
+/// From each place of a file there is a scan, and only one: what it finds, where it ends and why.
+pub fn a_scan_from_a_place_is_one()
+    ensures some { (number : Option ℕ) (goes_on : Bool) (file : List ℕ) (from : ℕ)
+        → AllByRecursion (λ b. b < 256) file → (scan : Scan) × IsScanFrom number goes_on file from scan }
+    ensures at_most_one { (number : Option ℕ) (goes_on : Bool) (file : List ℕ) (from : ℕ) (one other : Scan)
+        → IsScanFrom number goes_on file from one → IsScanFrom number goes_on file from other → one ≡ other }
+{}
+
+/// Whatever is damaged, a scan from a place finds a whole record if fragments that read lead to it without a gap.
+pub fn whole_records_are_found_from_a_place()
+    // They lead from the place itself.
+    ensures from_there { (number : Option ℕ) (file : List ℕ) (from : ℕ) (scan : Scan)
+        (before fragments : List Fragment) → IsScanFrom number true file from scan
+        → HasFragments number file from (before ++ fragments) → AreOneRecord (kinds_of fragments)
+        → HasRecord number from before fragments scan.items }
+    // Or they lead from the start of a later block: the record is in the order of that block.
+    ensures in_block_order { (number : Option ℕ) (file : List ℕ) (from : ℕ) (scan : Scan) (block : ℕ)
+        (before fragments : List Fragment) → IsScanFrom number true file from scan → from ≤ 32768 * block
+        → HasFragments number file (32768 * block) (before ++ fragments) → AreOneRecord (kinds_of fragments)
+        → HasRecord number (32768 * block) before fragments scan.items }
+{}
+
+/// A new scan goes on where an earlier one found its last record, also if the log has grown since.
+pub fn a_new_scan_goes_on()
+    // What was found is found in the longer log too.
+    ensures stays { (number : Option ℕ) (goes_on : Bool) (file more : List ℕ) (from place : ℕ) (items : List Item)
+        → Finds number goes_on file from items place → Finds number goes_on (file ++ more) from items place }
+    // With what the new scan finds after it, it is what one scan finds.
+    ensures joined { (number : Option ℕ) (goes_on : Bool) (file : List ℕ) (from place : ℕ) (items : List Item)
+        (scan : Scan) → Finds number goes_on file from items place → IsScanFrom number goes_on file place scan
+        → IsScanFrom number goes_on file from
+        (record { items = items ++ scan.items; at = scan.at; why = scan.why }) }
 {}
