@@ -4,7 +4,8 @@ ghost use Rattle.std.specs.Prelude.{◌≡◌, ◌++◌, true, false, codes};
 ghost use Rattle.model_base.specs.Log.{plain_log};
 ghost use Rattle.model_base.specs.Text.{hex};
 ghost use Rattle.log_scan.specs.Scanning.{IsScan};
-ghost use Rattle.log_scan_laws.specs.Rows.{damaged_log, found_before, found_in_all};
+ghost use Rattle.list_log.specs.Rows.{damaged_log};
+ghost use Rattle.log_scan_laws.specs.Rows.{found_before, found_in_all};
 
 /// A log of three records, of which the second one has a changed byte. Without going on after damage the first record
 /// is found; with it the third one too, and between them a stretch that doesn't read. What ends at the damage is then

@@ -265,10 +265,24 @@ module _ (calls : List ControllerCall) (groups : List Group) (attempts : List (L
             })
       ]
 
-  pub saw_free : SawFree calls own.place own.decided
+  saw_free : SawFree calls own.place own.decided
   saw_free =
       let h = are_groups.none_else 0 (before ++ own ∷ more) (length before) own there (at_last before own more) in
       stands h.group h.member h.among h.there h.client_is h.call_is h.place_is (all_at (HasOneFate calls groups attempts) groups h.at h.group are_groups.together h.of_place)
+
+-- one of client 1's attempts, which may wait, and whose leader asked for its delay and then let it go on
+pub record WasLetOn (end : Progress) : Type 0 where
+  pub before : List Attempt
+  pub own : Attempt
+  pub more : List Attempt
+  pub attempts : end.attempts ≡ before ++ own ∷ more
+  pub waits : own.options.no_slowdown ≡ false
+  pub went_on : is_slowed own.status ≡ false
+  pub later : own.place < own.decided
+
+-- what let it go on reported no stop
+pub let_on : (calls : List ControllerCall) (groups : List Group) (attempts : List (List Attempt)) → AreGroups 1048576 calls groups attempts → (end : Progress) → slice_get attempts 0 ≡ Some end.attempts → (w : WasLetOn end) → SawFree calls w.own.place w.own.decided
+let_on calls groups attempts are_groups end there w = saw_free calls groups attempts are_groups w.before w.own w.more (there ∙ ap (λ h. Some h) w.attempts) w.waits w.went_on w.later
 
 -- The clients' calls
 
@@ -303,15 +317,10 @@ passes_stopping = refl
 
 -- client 1 learned of a stop before its accepted commit, and of two once it knew by what its leader had decided
 record Learned (calls : List ControllerCall) (end : Progress) : Type 0 where
-  before : List Attempt
-  own : Attempt
-  attempts : end.attempts ≡ before ++ own ∷ []
-  waits : own.options.no_slowdown ≡ false
-  went_on : is_slowed own.status ≡ false
-  later : own.place < own.decided
-  first : IsToldIn calls 0 own.place (record { stops = 1; delays = 0; wait = 0 })
+  accepted : WasLetOn end
+  first : IsToldIn calls 0 accepted.own.place (record { stops = 1; delays = 0; wait = 0 })
   known : ℕ
-  last : IsToldIn calls own.decided known (record { stops = 2; delays = 0; wait = 0 })
+  last : IsToldIn calls accepted.own.decided known (record { stops = 2; delays = 0; wait = 0 })
   shown : ℕ
   asked : end.asked ≡ controller.stop shown ∷ []
 
@@ -335,13 +344,16 @@ learned trace end run =
     let before_it = a.asked.0 in let after_it = a.asked.2 in
     let rises = run.2.2.2.1.rises in let rises_again = run.2.2.2.2.1.rises in
     record {
-      before = refused_at.attempts;
-      own = record { records = refused_at.pending; options = plain; status = succeeded; place = a.place; decided = a.decided };
-      attempts = ap (λ (x : Progress). x.attempts) run.2.2.2.2.2.2 ∙ ap (λ (x : Progress). x.attempts) second.2 ∙ ap (with_attempt again.attempts again.pending noslow) outside
-          ∙ ap (λ (x : Progress). x.attempts) adding_again ∙ ap (λ (x : Progress). x.attempts) token.after ∙ ap (λ (x : Progress). x.attempts) a.after;
-      waits = refl;
-      went_on = refl;
-      later = a.asked.1;
+      accepted = record {
+        before = refused_at.attempts;
+        own = record { records = refused_at.pending; options = plain; status = succeeded; place = a.place; decided = a.decided };
+        more = [];
+        attempts = ap (λ (x : Progress). x.attempts) run.2.2.2.2.2.2 ∙ ap (λ (x : Progress). x.attempts) second.2 ∙ ap (with_attempt again.attempts again.pending noslow) outside
+            ∙ ap (λ (x : Progress). x.attempts) adding_again ∙ ap (λ (x : Progress). x.attempts) token.after ∙ ap (λ (x : Progress). x.attempts) a.after;
+        waits = refl;
+        went_on = refl;
+        later = a.asked.1;
+      };
       first = wider trace.controller_calls begun.known refused_at.known 0 a.place _ (omega arith) before_it (told_in_call trace.controller_calls (holds_stop begun.asked) 1 begun.known refused_at.known _ first.0 first.1.1);
       known = last.known;
       last = wider trace.controller_calls again.known last.known a.decided last.known _ (omega (arith, after_it, rises, rises_again)) (omega arith)
@@ -362,7 +374,7 @@ not_ignored ended legal =
     let one = l.each 0 _ _ refl refl in let two = l.each 1 _ _ refl refl in let mine = one.2 in let other = two.2 in
     let s = learned trace mine.end (run_of two_clients trace 1 _ stopped_calls mine.end (λ e. cc) mine.is_transcript) in
     let token = stops_once trace other.end (run_of two_clients trace 2 _ (says_done stop ∷ []) other.end (λ e. cc) other.is_transcript) in
-    let free = saw_free calls l.groups legal.attempts l.are_groups s.before s.own [] (one.1 ∙ ap (λ h. Some h) (mine.commits ∙ s.attempts)) s.waits s.went_on s.later in
+    let free = let_on calls l.groups legal.attempts l.are_groups mine.end (one.1 ∙ ap (λ h. Some h) mine.commits) s.accepted in
     let first = s.first in let last = s.last in
     let first_before = first.before in let free_later = free.later in let free_before = free.before in let last_later = last.later in
     let none = free.free in

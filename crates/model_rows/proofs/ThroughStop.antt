@@ -15,7 +15,6 @@ use Rattle.model_base.specs.Trace.{Trace}
 use Rattle.model_base.specs.Attempts.{Attempt, succeeded, Fate, with_attempt}
 use Rattle.model_base.specs.Progress.{Progress, fresh, early_refusal}
 use Rattle.model_base.specs.Replies.{Gets, Stops}
-use Rattle.model_base.specs.Groups.{is_slowed}
 use Rattle.model_base.specs.Runs.{Run}
 use Rattle.model_base.specs.Outcomes.{IsClient, IsLegal}
 use Rattle.model_base.proofs.Shown.{shown_at_least, shown_from_more, shown_in_fewer, said_in_fewer}
@@ -23,7 +22,7 @@ use Rattle.model_rows.specs.Examples.{put_a1, put_a2, put_b2, plain, noslow, key
 use Rattle.model_rows.specs.Runs.{two_clients}
 use Rattle.model_rows.specs.Ignored.{through_script, through_calls, watching_calls, kept_script, written_through_a_stop, written_through_a_kept_stop, blind_script, stopped_at_last_calls, blind_calls, blind_in_its_own_stop}
 use Rattle.model_rows.proofs.Alone.{some_same}
-use Rattle.model_rows.proofs.OthersStop.{one_if_stop, stops_among, stops_in, AreNamed, of_client, of_both, all_taken, one_more, taken_between, reported, delay_keeps, slow_keeps, SawFree, saw_free, IsToldIn, told_in_call}
+use Rattle.model_rows.proofs.OthersStop.{one_if_stop, stops_among, stops_in, AreNamed, of_client, of_both, all_taken, one_more, taken_between, reported, delay_keeps, slow_keeps, SawFree, IsToldIn, told_in_call, WasLetOn, let_on, wider}
 use Rattle.model_rows.proofs.Steps.{run_of, is_accepted, is_answered, is_attempted}
 
 -- Which stops were given back
@@ -152,15 +151,9 @@ stop_counted (u ∷ calls) (suc at) (suc place) client shown later is_stop =
 
 -- its second commit was accepted at 2, and calls up to its delay say that the client had been shown the first one
 record Wrote (calls : List ControllerCall) (end : Progress) : Type 0 where
-  before : List Attempt
-  own : Attempt
-  more : List Attempt
-  attempts : end.attempts ≡ before ++ own ∷ more
-  waits : own.options.no_slowdown ≡ false
-  went_on : is_slowed own.status ≡ false
-  later : own.place < own.decided
-  said : 1 ≤ said_in (take (own.place + 1) calls)
-  unseen : shown_by_tokens (take own.decided calls) < 2
+  accepted : WasLetOn end
+  said : 1 ≤ said_in (take (accepted.own.place + 1) calls)
+  unseen : shown_by_tokens (take accepted.own.decided calls) < 2
   asked : end.asked ≡ []
 
 wrote_two : (trace : Trace) (end : Progress) → Run two_clients trace 1 fresh through_calls end → Wrote trace.controller_calls end
@@ -173,13 +166,15 @@ wrote_two trace end run =
     let said = b.said in
     let free : begun.asked ≡ [] = ap (λ (x : Progress). x.asked) run.1.replies in
     record {
-      before = next.attempts;
-      own = record { records = next.pending; options = plain; status = succeeded; place = b.place; decided = b.decided };
-      more = [];
-      attempts = ap (λ (x : Progress). x.attempts) run.2.2.2.2 ∙ ap (λ (x : Progress). x.attempts) b.after;
-      waits = refl;
-      went_on = refl;
-      later = b.asked.1;
+      accepted = record {
+        before = next.attempts;
+        own = record { records = next.pending; options = plain; status = succeeded; place = b.place; decided = b.decided };
+        more = [];
+        attempts = ap (λ (x : Progress). x.attempts) run.2.2.2.2 ∙ ap (λ (x : Progress). x.attempts) b.after;
+        waits = refl;
+        went_on = refl;
+        later = b.asked.1;
+      };
       said = omega (arith, shown, still, said);
       unseen = b.unseen;
       asked = ap (λ (x : Progress). x.asked) run.2.2.2.2 ∙ ap (λ (x : Progress). x.asked) b.after ∙ ap (λ (x : Progress). x.asked) run.2.2.1.replies ∙ ap (λ (x : Progress). x.asked) a.after ∙ free;
@@ -233,9 +228,9 @@ never : (ended : ℕ) (script : List (List Command)) (o : Outcome) (legal : IsLe
     → Watched legal.trace.controller_calls → ⊥
 never ended script o legal mine commits none s w =
     let l = legal.legal in let calls = legal.trace.controller_calls in
-    let free = saw_free calls l.groups legal.attempts l.are_groups s.before s.own s.more (commits ∙ ap (λ h. Some h) s.attempts) s.waits s.went_on s.later in
+    let free = let_on calls l.groups legal.attempts l.are_groups mine commits s.accepted in
     let all = all_say_two calls l.is_trace.tokens none (subst (AllByRecursion SaysTwo) (sym w.tokens) (says_two w.stopped.shown w.freed w.two)) in
-    through_order calls l.is_trace.controller_calls all s.own.place s.own.decided free s.said s.unseen w.stopped (nat_lt w.stopped.at free.at) refl
+    through_order calls l.is_trace.controller_calls all s.accepted.own.place s.accepted.own.decided free s.said s.unseen w.stopped (nat_lt w.stopped.at free.at) refl
 
 -- the stop is given back by the client's last call
 pub not_through : (ended : ℕ) → IsLegal two_clients ended through_script written_through_a_stop → ⊥
@@ -291,7 +286,7 @@ passes = refl
 record WroteFirst (calls : List ControllerCall) (end : Progress) : Type 0 where
   wrote : Wrote calls end
   knows : ℕ
-  told : IsToldIn calls wrote.own.decided knows (record { stops = 1; delays = 0; wait = 0 })
+  told : IsToldIn calls wrote.accepted.own.decided knows (record { stops = 1; delays = 0; wait = 0 })
 
 wrote_first : (trace : Trace) (end : Progress) → Run two_clients trace 1 fresh stopped_at_last_calls end → WroteFirst trace.controller_calls end
 wrote_first trace end run =
@@ -310,22 +305,24 @@ wrote_first trace end run =
     let was : again.attempts ≡ next.attempts ++ own ∷ [] = ap (λ (x : Progress). x.attempts) adding ∙ ap (λ (x : Progress). x.attempts) b.after in
     let m = with_more again.attempts again.pending noslow third.0 in
     let told = told_in_call trace.controller_calls (holds_stop again.asked) 1 again.known last.known _ third.0 third.1.1 in
-    let known = b.asked.2 in let rises = run.2.2.2.2.1.rises in let low = told.later in
+    let known = b.asked.2 in let rises = run.2.2.2.2.1.rises in
     record {
       wrote = record {
-        before = next.attempts;
-        own = own;
-        more = m.0;
-        attempts = ap (λ (x : Progress). x.attempts) run.2.2.2.2.2.2 ∙ ap (λ (x : Progress). x.attempts) third.2 ∙ m.1 ∙ ap (λ hs. hs ++ m.0) was ∙ append_assoc next.attempts (own ∷ []) m.0;
-        waits = refl;
-        went_on = refl;
-        later = b.asked.1;
+        accepted = record {
+          before = next.attempts;
+          own = own;
+          more = m.0;
+          attempts = ap (λ (x : Progress). x.attempts) run.2.2.2.2.2.2 ∙ ap (λ (x : Progress). x.attempts) third.2 ∙ m.1 ∙ ap (λ hs. hs ++ m.0) was ∙ append_assoc next.attempts (own ∷ []) m.0;
+          waits = refl;
+          went_on = refl;
+          later = b.asked.1;
+        };
         said = omega (arith, shown, still, said);
         unseen = b.unseen;
         asked = ap (λ (x : Progress). x.asked) run.2.2.2.2.2.2 ∙ ap (λ (x : Progress). x.asked) third.2 ∙ asked;
       };
       knows = last.known;
-      told = record { place = told.place; call = told.call; there = told.there; told = told.told; later = omega (arith, known, rises, low); before = told.before };
+      told = wider trace.controller_calls again.known last.known b.decided last.known _ (omega (arith, known, rises)) (omega arith) told;
     }
 
 -- There is one stop. The call that let a commit go on reported none, and a later one reported it: so the stop comes after
@@ -353,7 +350,7 @@ not_blind ended legal =
     let one = l.each 0 _ _ refl refl in let two = l.each 1 _ _ refl refl in let mine = one.2 in let other = two.2 in
     let f = wrote_first trace mine.end (run_of two_clients trace 1 _ stopped_at_last_calls mine.end (λ e. cc) mine.is_transcript) in
     let s = f.wrote in
-    let free = saw_free calls l.groups legal.attempts l.are_groups s.before s.own s.more (one.1 ∙ ap (λ h. Some h) (mine.commits ∙ s.attempts)) s.waits s.went_on s.later in
+    let free = let_on calls l.groups legal.attempts l.are_groups mine.end (one.1 ∙ ap (λ h. Some h) mine.commits) s.accepted in
     let run = run_of two_clients trace 2 _ blind_calls other.end (λ e. cc) other.is_transcript in
     let read = is_answered two_clients (key_a.family ∷ []) run.0 (found 0 None) run.2.0 (Gets trace run.0 key_a (found 0 None) run.2.0) refl run.2.1.replies in
     let token = run.1.replies in
@@ -361,4 +358,4 @@ not_blind ended legal =
     let asked : other.end.asked ≡ controller.stop token.1 ∷ [] = ap (λ (x : Progress). x.asked) run.2.2 ∙ ap (λ (x : Progress). x.asked) read.after ∙ ap (λ (x : Progress). x.asked) token.2.after in
     let of_one : stops_in (of_client 1 calls) ≡ 0 = ap stops_among (mine.tokens ∙ ap (λ asked. asked ++ given_back asked mine.shown) s.asked) in
     let of_two : stops_in (of_client 2 calls) ≡ 1 = ap stops_among (other.tokens ∙ ap (λ asked. asked ++ given_back asked other.shown) asked) in
-    blind_order calls l.is_trace.controller_calls l.is_trace.tokens of_one of_two s.own.place s.own.decided f.knows free f.told 0 s.said stopped (nat_lt stopped.at free.at) refl
+    blind_order calls l.is_trace.controller_calls l.is_trace.tokens of_one of_two s.accepted.own.place s.accepted.own.decided f.knows free f.told 0 s.said stopped (nat_lt stopped.at free.at) refl

@@ -1,6 +1,7 @@
 use Rattle.std.proofs.Common.{refl}
 use Rattle.model_base.specs.Varint.{varint_within}
-use Rattle.log_scan_laws.proofs.ChangedByte.{list, scan, not_before}
+use Rattle.list_log.proofs.ChangedByte.{list, scan}
+use Rattle.log_scan_laws.proofs.ChangedByte.{not_before}
 use Rattle.log_scan_laws.proofs.rows.a_changed_byte_is_passed_over.Goals as goal
 
 pub returns-clause-bytes : goal.returns-clause-bytes
