@@ -24,9 +24,9 @@ use std::rt::Files;
 /// then it finds all that the first one did. A program that doesn't ask for the lock isn't kept out.
 ///
 /// A disk that [`FileDisk::to_read`] makes opens the file for reading, without a lock, and makes none. Where there is
-/// none, its length is 0, and a read fails. It may read
-/// while another program writes: it keeps to the length that the file had at its first call, and a read fails where
-/// the file has become too short for it. `append`, `rewind`, `cut` and `sync` fail, and do nothing.
+/// none, its length is 0, and a read fails. It may read while another program writes: it keeps to the length that the
+/// file had at its first call, or at the last call of `len`, which measures it anew. A read fails where the file has
+/// become too short for that. `append`, `rewind`, `cut` and `sync` fail, and do nothing.
 ///
 /// An append writes at the place, over the bytes there, also those that a failed append may have left. It does so in
 /// one call of the system, unless that call takes only a part. `cut` is the system's `ftruncate`, and fails if the

@@ -84,6 +84,21 @@ impl<R: Files<File = File> + Drop> SystemFile<R> {
                 _ => Err(error),
             };
         }
+        match self.access {
+            Access::Read => self.measure_growth(),
+            Access::Write => Ok(self.len),
+        }
+    }
+
+    /// How many bytes the open file has by now, since another program may append to it meanwhile. Reads go that far
+    /// from then on. A file that was truncated keeps its length here, so that a read of what is gone fails.
+    fn measure_growth(&mut self) -> io::Result<u64>
+        requires measured { self.old.measured ≡ true }
+        ensures small { IfOk result (λ n. n < 2 ^ 63) }
+        ensures adds_none { added_to self.new ≡ added_to self.old }
+    {
+        let len = len_of(self.opened()?)?;
+        self.len = self.len.max(len);
         Ok(self.len)
     }
 
