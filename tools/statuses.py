@@ -1,6 +1,7 @@
 """Which field of a command's record says something at which exit status, and the records that these fields speak of."""
 
 import re
+import sys
 
 from contracts import CRATES
 
@@ -84,6 +85,8 @@ def statuses_in(text):
 def row_of(type_):
     """What a field with this type says of each status."""
     asked, said = ASKED.match(type_), SAID.search(type_)
+    if re.search("status [≡≢<]", type_) and not asked and not said:
+        sys.exit(f"statuses: not read: {type_}")
     about = statuses_in(asked[1]) if asked else set(STATUSES)
     if not said:
         return {at: "says" for at in about}
