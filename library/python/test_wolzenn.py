@@ -452,9 +452,6 @@ class Others(unittest.TestCase):
             before = pages() if at == 20 else before
         self.assertLess(pages() - before, 10_000_000 // os.sysconf("SC_PAGE_SIZE"))
 
-    def test_whether_it_is_proved(self):
-        self.assertIn(wolzenn.is_proved(), (False, True))
-
     def test_words(self):
         self.assertEqual([str(it) for it in (Why.SHORT_HEADER, Why.OLD_LOG)], ["shortheader", "oldlog"])
 
