@@ -18,7 +18,8 @@
    Bytes. A pointer with a length means that many bytes, which are read (const) or written, and fewer than 2^63. Where
    the length is 0 it may be null. No other pointer may be null, and each is aligned as its type asks: a call with one
    that isn't may end the process. What a pointer that isn't const points to, a handle too, overlaps nothing else of the
-   same call. The bytes stay the caller's: no function keeps a pointer to them. No function locks, waits, starts a
+   same call. Nobody changes any of these bytes during a call, neither another thread nor, where a file is mapped,
+   another process. The bytes stay the caller's: no function keeps a pointer to them. No function locks, waits, starts a
    thread, calls back, or ends the process otherwise. There is no global state. errno says nothing, and may change,
    since malloc may set it.
 
@@ -65,9 +66,13 @@ extern "C" {
 #endif
 
 /* The version of this header, and that of the library that the program runs with. They are the same number unless the
-   header belongs to another version of the library. */
-#define WZ_VERSION 7u
+   header belongs to another version of the library. Where that may be, a program compares them before any other call:
+   of another version a struct may have another layout. */
+#define WZ_VERSION 8u
 uint32_t wz_version(void);
+
+/* Whether the library was built of sources that had been proved on the machine that built it. */
+bool wz_is_proved(void);
 
 /* What a function answers. */
 WZ_ENUM(wz_code) {
