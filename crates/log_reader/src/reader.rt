@@ -16,7 +16,7 @@ ghost use Rattle.log_reader.specs.Reader.{Follows, HasBlock, PlaceAfter, GoesFor
 use crate::errors::OpenError;
 use crate::window::Window;
 use base_devices::ReadAt;
-use log_block::{FIRST, FULL, LAST, MIDDLE, Seen, plain_type};
+use log_block::{BLOCK_LEN, FIRST, FULL, LAST, MIDDLE, Seen, plain_type};
 use model_base::{EndReason, NoMemory};
 use std::alloc::Global;
 use std::marker::Model;
@@ -161,10 +161,19 @@ impl LogReader {
         Ok(self.window.is_damaged(self.number))
     }
 
+    /// The place up to which it has read records, or the one to which it went.
+    pub fn place(&self) -> u64
+        ensures { result ≡ self.now.place }
+    {
+        self.place
+    }
+
     /// The bytes of the log from the reader's place to the end of its block, as far as the file has them, once the
     /// reader went there by `go_to`.
     pub fn rest(&self) -> &[u8]
-        ensures { (file : List ℕ) → Follows file self.now → HasBlock self.now → self.now.stopped ≡ None
+        ensures in_block { length result.now ≤ BLOCK_LEN }
+        ensures small { self.now.stopped ≡ None → self.now.place + length result.now < 2 ^ 63 }
+        ensures bytes { (file : List ℕ) → Follows file self.now → HasBlock self.now → self.now.stopped ≡ None
             → result.now ≡ take (room self.now.place) (drop self.now.place file) }
     {
         self.window.part(self.window.at, self.window.len)
@@ -213,7 +222,7 @@ impl LogReader {
         // A loop over the records ends: each of them ends after the place before it.
         ensures forward { self.old.stopped ≡ None → GoesForward self.old.place result }
         // Also where the disk tells nothing.
-        ensures small { self.old.stopped ≡ None → IsSmall result }
+        ensures small { IsSmall result }
         // So the clause `reads` is good for the next call as well.
         ensures follows { IfSome (R.held disk.old) (λ file. Follows file self.old → Follows file self.new) }
         // A fault is answered only where the count rose in this call, with the count that the disk then has, and any

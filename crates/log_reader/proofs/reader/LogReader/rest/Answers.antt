@@ -4,8 +4,8 @@ use Rattle.log_reader.specs.Reader.{Reader, Follows, HasBlock}
 use Rattle.log_reader.proofs.Looking.{rest_is}
 use Rattle.log_reader.proofs.reader.LogReader.rest.Goals as goal
 
-pub returns : goal.returns
-returns c = λ file follows block going.
+pub returns-clause-bytes : goal.returns-clause-bytes
+returns-clause-bytes c = λ file follows block going.
     let inside = c.self.inside in
     let on = subst (λ (r : Reader). Follows file r) (sym c.self.view_is) follows in
     let has = subst HasBlock (sym c.self.view_is) block in
