@@ -1,5 +1,5 @@
 -- Where the count of a kind is, and that counting keeps it there.
-use Rattle.std.proofs.Common.{◌≡◌, ℕ, ◌<◌, ◌≤◌, Bool, true, false, not, cond, List, [], ◌∷◌, ◌++◌, length, set, get_or, Option, Some, None, BTreeMap, refl, sym, ◌∙◌, ap, subst, arith}
+use Rattle.std.proofs.Common.{◌≡◌, ℕ, ◌<◌, ◌≤◌, Bool, true, not, cond, List, [], ◌∷◌, ◌++◌, length, set, get_or, Option, Some, None, BTreeMap, refl, sym, ◌∙◌, ap, subst, arith}
 use Rattle.std.specs.BTreeMap.{Updates, get, is_at}
 use Rattle.std.specs.List.{position, position_or_len}
 use Rattle.std.proofs.lemmas.Grind.{common_steps}
