@@ -285,6 +285,22 @@ class Batches(unittest.TestCase):
             self.assertEqual(raised.exception.end, end)
             self.assertEqual(wolzenn.batch_head(cut), BatchHead(0, 1))
 
+    def test_what_had_no_room(self):
+        # Where Ctrl-C comes right after something was found, or there is no memory for it.
+        recovery = wolzenn.recover(LOG)
+        for opens in (lambda: wolzenn.operations(ONE), lambda: wolzenn.all_operations(TWO), lambda: iter(recovery)):
+            says, iterator, found = list(opens()), opens(), []
+            for _ in says:
+                with failing("_answer", KeyboardInterrupt), self.assertRaises(KeyboardInterrupt):
+                    next(iterator)
+                found.append(next(iterator))
+            self.assertEqual((found, list(iterator)), (says, []))
+        data = bytearray(ONE)
+        for op in wolzenn.operations(data):
+            with self.assertRaises(BufferError):
+                data.append(0)
+        data.append(0)
+
     def test_a_group(self):
         with Batch(9) as group, Batch(1) as member:
             member.put(b"a", b"1")

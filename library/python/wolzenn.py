@@ -57,7 +57,8 @@ _ABI = 3
 
 
 class Why(enum.IntEnum):
-    """Why reading or recovery ended, or why bytes are no batch. As a string it is the word of `docs/RECOVERY.md`."""
+    """Why reading or recovery ended, or why bytes are no batch. As a string it is the word of the
+    repository's `docs/RECOVERY.md`."""
 
     CLEAN = 1
     SHORT_HEADER = 2
@@ -653,7 +654,24 @@ class Recovery(_Held):
         return self[index].value if is_there else default
 
     def __iter__(self):
-        return (self[index] for index in range(self._len))
+        return _Pairs(self)
+
+
+class _Pairs:
+    """The pairs of a recovery. It goes on only once a pair is there, as `_Steps` does."""
+
+    def __init__(self, recovery):
+        self._recovery, self._index = recovery, 0
+
+    def __iter__(self):
+        return self
+
+    def __next__(self):
+        if self._index >= len(self._recovery):
+            raise StopIteration
+        pair = self._recovery[self._index]
+        self._index += 1
+        return pair
 
 
 def recover(log, number=0, mode=Mode.POINT):
@@ -781,24 +799,47 @@ def read_batch(data):
     return BatchHead(head.sequence, head.count)
 
 
+class _Steps:
+    """What a function of the library finds in a batch's bytes, step by step, each as `told` gives it. It goes on only
+    once that is there: so none is lost where there is no memory for it, and the next call gives it then."""
+
+    def __init__(self, data, find, found, told):
+        self._bytes, self._view = _Bytes(data), memoryview(data).cast("B")
+        self._at, self._place, self._why = BATCH_HEADER_LEN, ctypes.c_size_t(), _End()
+        self._find, self._found, self._told = find, found, told
+        self._words = self._bytes.at, self._bytes.len, self._place, found, self._why
+
+    def __iter__(self):
+        return self
+
+    def __next__(self):
+        if self._bytes is None:
+            raise StopIteration
+        self._place.value = self._at
+        code = self._find(*self._words)
+        if _answer(code, _END, _NO_BATCH, _RANGE) == _DONE:
+            told = self._told(self._found, self._view)
+            self._at = self._place.value
+            return told
+        self._bytes = self._view = None
+        if code == _NO_BATCH:
+            raise NoBatch(self._why.told())
+        if code == _RANGE:
+            # There are fewer bytes than a header has.
+            raise NoBatch(End(0, Why.SHORT))
+        raise StopIteration
+
+
+def _op_of(op, view):
+    kind, value = Kind(op.kind), None
+    if kind in (Kind.VALUE, Kind.VALUE_CF):
+        value = bytes(view[op.value_at : op.value_at + op.value_len])
+    return Op(kind, op.family, bytes(view[op.key_at : op.key_at + op.key_len]), value)
+
+
 def operations(data):
     """Gives the operations of a batch's bytes one by one. NoBatch where no operation is, and then no more."""
-    place, op, why = ctypes.c_size_t(BATCH_HEADER_LEN), _Op(), _End()
-    with _Bytes(data) as it:
-        view = memoryview(data).cast("B")
-        while True:
-            code = _library.wz_batch_next(it.at, it.len, place, op, why)
-            if _answer(code, _END, _NO_BATCH, _RANGE) != _DONE:
-                break
-            kind, value = Kind(op.kind), None
-            if kind in (Kind.VALUE, Kind.VALUE_CF):
-                value = bytes(view[op.value_at : op.value_at + op.value_len])
-            yield Op(kind, op.family, bytes(view[op.key_at : op.key_at + op.key_len]), value)
-    if code == _NO_BATCH:
-        raise NoBatch(why.told())
-    if code == _RANGE:
-        # There are fewer bytes than a header has.
-        raise NoBatch(End(0, Why.SHORT))
+    return _Steps(data, _library.wz_batch_next, _Op(), _op_of)
 
 
 def batch_head(data):
@@ -810,24 +851,16 @@ def batch_head(data):
     return BatchHead(head.sequence, head.count) if _answer(code, _NO_BATCH) == _DONE else None
 
 
+def _operation_of(found, view):
+    spans = [(found.first_at, found.first_len), (found.second_at, found.second_len)][: found.strings]
+    strings = tuple(bytes(view[at : at + length]) for at, length in spans)
+    return Operation(Tag(found.tag), found.family, found.sequences, strings)
+
+
 def all_operations(data):
     """Gives the operations of a batch's bytes one by one, of all kinds that RocksDB writes, as `operations` gives those
     that recovery applies. NoBatch where it isn't known what comes next, and then no more."""
-    place, found, why = ctypes.c_size_t(BATCH_HEADER_LEN), _Operation(), _End()
-    with _Bytes(data) as it:
-        view = memoryview(data).cast("B")
-        while True:
-            code = _library.wz_operation_next(it.at, it.len, place, found, why)
-            if _answer(code, _END, _NO_BATCH, _RANGE) != _DONE:
-                break
-            spans = [(found.first_at, found.first_len), (found.second_at, found.second_len)][: found.strings]
-            strings = tuple(bytes(view[at : at + length]) for at, length in spans)
-            yield Operation(Tag(found.tag), found.family, found.sequences, strings)
-    if code == _NO_BATCH:
-        raise NoBatch(why.told())
-    if code == _RANGE:
-        # There are fewer bytes than a header has.
-        raise NoBatch(End(0, Why.SHORT))
+    return _Steps(data, _library.wz_operation_next, _Operation(), _operation_of)
 
 
 # ---- writing
