@@ -1,5 +1,5 @@
-# What each launcher begins with: where things are, and how it speaks. The launcher has set `here`, the top folder of the
-# checkout, or the folder `bin` of a release, and `me`, its name.
+# What each launcher begins with: where things are, and how it speaks. The launcher has set `here`, the top folder of
+# the checkout, or the folder `bin` of a release, and `me`, its name.
 
 # The version, that of library/rust/Cargo.toml, and the kit by which all is proved.
 version=0.1.0
@@ -49,19 +49,22 @@ what_is_known() {
     case $how in
     given) echo "named by $2" ;;
     proved) echo 'proved here' ;;
-    released) [[ -e $inner/not-proved ]] && echo 'not proved' || echo 'proved for this release' ;;
+    released) echo 'proved for this release' ;;
+    trial) echo 'not proved' ;;
     *) echo 'not proved here' ;;
     esac
 }
 
-# Looks for the program of this crate, or the one that a variable names: sets `program`, and `how` to `given`, `released`,
-# `proved` or `unproved`, or to nothing where none is built of the sources as they are.
+# Looks for the program of this crate, or the one that a variable names: sets `program`, and `how` to `given`,
+# `released`, `trial` (a release that isn't proved), `proved` or `unproved`, or to nothing where none is built of the
+# sources as they are.
 look_for() {
     how= program=${!2-}
     if [[ $program ]]; then
         how=given
     elif [[ $is_released ]]; then
         how=released program=$inner/$1
+        [[ ! -e $inner/not-proved ]] || how=trial
     elif is_current "$1" proved; then
         how=proved program=$root/crates/$1/out/$1
     elif is_current "$1" unproved; then
@@ -76,12 +79,20 @@ find_program() {
         . "$launch/first.sh" || exit 126
         build_first "$1"
     fi
-    [[ $how != unproved ]] || say_unproved
+    ! is_unproved || say "$(why_unproved)"
     [[ -x $program ]] && return
     say "$program is no program that can be run"
     exit 126
 }
 
-say_unproved() { say "this build isn't proved on this machine: $prover proves it"; }
+is_unproved() { [[ $how == @(unproved|trial) ]]; }
+
+why_unproved() {
+    if [[ $how == trial ]]; then
+        echo "this is a trial, of which nothing is proved"
+    else
+        echo "this build isn't proved on this machine: $prover proves it"
+    fi
+}
 
 [[ $is_released ]] || . "$launch/stamps.sh" || exit 126

@@ -1,11 +1,11 @@
-# Proves the programs and the library, by the merge gate's own command on a copy of their crates: it proves crates side by
-# side, and takes those that an earlier run on this machine proved. It says how far it is and when it will be done. A call
-# that is ended keeps the crates that were proved, and the next one goes on from there.
+# Proves the programs and the library, by the merge gate's own command on a copy of their crates: it proves crates side
+# by side, and takes those that an earlier run on this machine proved. It says how far it is and when it will be done. A
+# call that is ended keeps the crates that were proved, and the next one goes on from there.
 
 . "$launch/library.sh" || exit 126
 
-# Makes a repository of these crates alone, in a folder of its own, since a `crates.txt` below another one would stop the
-# gate. It has no edits, and nothing that was built.
+# Makes a repository of these crates only, in a folder of its own, since a `crates.txt` below another one would stop
+# the gate. It has no edits, and nothing that was built.
 copy_sources() {
     local name it
     room=$(mktemp -d "${TMPDIR:-/tmp}/wolzenn-proof.XXXXXX") || return 1
@@ -149,8 +149,8 @@ prove() {
     for crate; do words[$crate]=$(sources_now "$crate" proved); done
     look
     is_known_kit || say "rt is that of $kit_id; this was proved by $kit"
-    say "proves $count crates, once: from nothing $((seconds / 60 + 1)) minutes on fast processors, and three times as" \
-        'long on slow ones; it says more when the first crate is proved'
+    say "proves $count crates, once: from nothing $((seconds / 60 + 1)) minutes on fast processors, and three times" \
+        'as long on slow ones; it says more when the first crate is proved'
     say "what it does is in $log"
     begin "$room" "$(readlink -f -- "$(type -P rt)")" ci
     until [[ $has_ended || $refused ]]; do

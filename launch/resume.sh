@@ -115,18 +115,17 @@ look_first() {
 # Ends a call of a build that isn't proved, where it would change a file that has bytes.
 refuse_unproved() {
     local at path
-    [[ ${2-} == run ]] || return 0
+    is_unproved && [[ ${2-} == run ]] || return 0
     if has_word --resume "${@:3}"; then
-        say "\`run --resume\` changes a log that is there, and this build isn't proved on this machine: $prover proves it." \
-            'Nothing was changed'
+        say "nothing was changed: \`run --resume\` changes a log that is there, and $(why_unproved)"
         exit 126
     fi
     [[ " ${*:3} " == *' --number'[' =']* ]] || return 0
     for ((at = 1; at <= log_count; at++)); do
         path=$(path_of "$file" $at)
         [[ -f $path && -s $path ]] || continue
-        say "\`run --number\` writes over $(path_of "$1" $at), which has bytes, and this build isn't proved on this" \
-            "machine: $prover proves it. Nothing was changed"
+        path=$(path_of "$1" $at)
+        say "nothing was changed: \`run --number\` writes over $path, which has bytes, and $(why_unproved)"
         exit 126
     done
 }

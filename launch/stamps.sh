@@ -22,8 +22,8 @@ lines_of() {
         END { n = split(tops, top, " "); for (i = 1; i <= n; i++) put(top[i]) }' "$tree/crates.txt"
 }
 
-# What is built of this crate in this way: `built`, its files, `stamp`, and `extras`, which go into it besides the crates.
-# `sources` are the folders of the crates, in `tree`. All paths begin at the top folder.
+# What is built of this crate in this way: `built`, its files, `stamp`, and `extras`, which go into it besides the
+# crates. `sources` are the folders of the crates, in `tree`. All paths begin at the top folder.
 name_files() {
     extras=()
     if [[ $1 == wolzenn_c ]]; then
