@@ -1,5 +1,5 @@
 -- What a call of a scanner answers, where the disk tells its content.
-use Rattle.std.proofs.Common.{◌≡◌, ℕ, ◌≤◌, List, length, Option, Some, None, refl, sym, ◌∙◌, subst, arith}
+use Rattle.std.proofs.Common.{◌≡◌, ℕ, List, Option, Some, None, refl, sym, ◌∙◌, subst}
 use Rattle.std.specs.Option.{unwrap_or}
 use Rattle.model_base.specs.Reading.{IsRecord, ReadingEnds}
 use Rattle.log_reader.specs.declared.reader.Next.{Next}
@@ -9,7 +9,7 @@ use Rattle.log_scan.specs.declared.scanner.Found.{Found}
 use Rattle.log_scan.specs.declared.scanner.Found.TheVariants as found
 use Rattle.log_scan.specs.declared.scanner.Lost.{Lost}
 use Rattle.log_scan.specs.declared.scanner.Unread.{Unread}
-use Rattle.log_scan.specs.Scanning.{not_skipped, first_end, later_place}
+use Rattle.log_scan.specs.Scanning.{not_skipped, first_end}
 use Rattle.log_scan.specs.Scanner.{ScannerState, AnswersScan, IsAt, IsGoing, Passes, WhereItGoesOn, unread_before}
 use Rattle.log_scan.proofs.Skipping.{skips_more, ends_there}
 

@@ -212,13 +212,17 @@ impl Scanner {
     {
         let first = self.lost.unwrap_or(end);
         match self.later_place(disk, end) {
-            // The place is always later. Where the disk tells nothing no clause says so.
             Ok(Some(place)) if place > self.here => {
                 self.here = place;
                 self.lost = Some(first);
                 Found::Passed
             }
-            Ok(_) => Found::End {
+            // The place is always later. Where the disk tells nothing no clause says so.
+            Ok(Some(_)) => Found::End {
+                at: first.at,
+                why: first.why,
+            },
+            Ok(None) => Found::End {
                 at: first.at,
                 why: first.why,
             },

@@ -1,4 +1,4 @@
-use Rattle.std.proofs.Common.{◌≡◌, ◌+◌, ◌≤◌, inl, inr, ℕ, List, length, true, Option, option_and_then, sym, ◌∙◌, ap, subst, arith}
+use Rattle.std.proofs.Common.{◌≡◌, ◌+◌, ◌≤◌, inl, inr, ℕ, length, true, Option, option_and_then, sym, ◌∙◌, ap, subst, arith}
 use Rattle.log_reader.specs.Damaged.{is_damaged}
 use Rattle.log_reader.specs.Opens.{starts_at}
 use Rattle.log_reader.specs.Reader.{Follows}
