@@ -30,8 +30,8 @@ impl From<NoRoom> for KeyError {
     }
 }
 
-/// The key that a word spells: in hexadecimal digits, and `-` if it is empty; or where keys are shown as text, as a
-/// text without quotes. There a backslash comes twice, or `x` and two digits follow it; any other byte is its own.
+/// The key that a word spells: in hexadecimal digits, and `-` if it is empty; or where keys are shown as text, as a text
+/// without quotes. There a backslash comes twice, or `x` and two digits follow it; any other byte is its own.
 pub fn key_of(alloc: Global, form: Form, word: &str) -> Result<Bytes, KeyError>
     ensures ok { IfOk result (λ key. key_in form word.now ≡ Some key) }
     ensures err { IfErr result (λ e. e ≡ NotAKey → key_in form word.now ≡ None) }
