@@ -3,8 +3,8 @@
 //     peers_salvage puts PATH | peers_salvage mixed PATH | peers_salvage show MODE PATH
 //
 // `puts` writes 38,160 keys, each with a value of its own. `mixed` writes 20,000 batches of puts, merges, deletions and
-// range deletions into three column families; each also puts a key that no other batch has. `show` opens the database in
-// one of RocksDB's four recovery modes, and prints of each pair the family, the key and the value, in hexadecimal.
+// range deletions into three column families; each also puts a key that no other batch has. `show` opens the database
+// in one of RocksDB's four recovery modes, and prints of each pair the family, the key and the value, in hexadecimal.
 
 #include <rocksdb/db.h>
 #include <rocksdb/merge_operator.h>
@@ -103,15 +103,17 @@ static void show(const std::string& path, rocksdb::WALRecoveryMode mode) {
     for (auto* family : opened.families) {
         std::unique_ptr<rocksdb::Iterator> it(opened.db->NewIterator({}, family));
         for (it->SeekToFirst(); it->Valid(); it->Next())
-            std::cout << family->GetName() << " " << it->key().ToString(true) << " " << it->value().ToString(true) << "\n";
+            std::cout << family->GetName() << " " << it->key().ToString(true) << " " << it->value().ToString(true)
+                      << "\n";
         check(it->status());
     }
 }
 
 int main(int count, char** words) {
-    std::string command = count > 2 ? words[1] : "";
+    std::string command = count > 1 ? words[1] : "";
+    if (count != (command == "show" ? 4 : 3)) return 2;
     if (command == "puts") write_puts(words[2]);
     else if (command == "mixed") write_mixed(words[2]);
-    else if (command == "show" && count == 4) show(words[3], static_cast<rocksdb::WALRecoveryMode>(std::atoi(words[2])));
+    else if (command == "show") show(words[3], static_cast<rocksdb::WALRecoveryMode>(std::atoi(words[2])));
     else return 2;
 }

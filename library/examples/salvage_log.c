@@ -5,7 +5,7 @@
    Each record that a scan of a LOG finds, also after damage, is written to NEW as it is, in the order of the files, if
    it is a whole batch: all its operations are of kinds that RocksDB writes, and as many take a sequence as it says. N
    is the LOGs' number, where their fragments have one; if it isn't given, it is that of a LOG's first header. In NEW
-   they have none. A LOG is only read. NEW must be new: it has its name once it is whole and synced, and NEW.part before.
+   they have none. A LOG is only read. NEW must be new: it is called NEW.part until it is whole and synced.
 
    For each LOG it prints `unread FROM TO AT REASON` for a stretch before a record in which none reads, `left START END
    REASON` for a record that isn't written, and where and why no more was read; and last how many records are written
@@ -43,8 +43,10 @@ static int stop_by_system(const char *path) {
 /* Prints a reason of docs/RECOVERY.md, with its numbers. */
 static void print_reason(wz_end end) {
     printf(" %s", wz_why_text(end.why));
-    if (end.why == WZ_WHY_BAD_TYPE || end.why == WZ_WHY_OLD_LOG || end.why == WZ_WHY_TAG) printf(" %" PRIu64, end.first);
-    if (end.why == WZ_WHY_COUNT) printf(" %" PRIu64 " %" PRIu64, end.first, end.second);
+    bool has_two = end.why == WZ_WHY_COUNT;
+    bool has_one = has_two || end.why == WZ_WHY_BAD_TYPE || end.why == WZ_WHY_OLD_LOG || end.why == WZ_WHY_TAG;
+    if (has_one) printf(" %" PRIu64, end.first);
+    if (has_two) printf(" %" PRIu64, end.second);
     printf("\n");
 }
 
@@ -124,7 +126,7 @@ static int add_log(salvage *new, const char *path, const uint8_t *log, size_t le
     if (code != WZ_END) return stop(3, path, wz_code_text(code));
     printf("end %" PRIu64, end.at), print_reason(end);
     bool reads = len == 0 || new->kept + new->left > before;
-    for (size_t place = 0; !reads && place < len; place += WZ_BLOCK_LEN) reads = reads_at(log, len, number, place, &end);
+    for (size_t at = 0; !reads && at < len; at += WZ_BLOCK_LEN) reads = reads_at(log, len, number, at, &end);
     return reads ? 0 : stop(8, path, "not one fragment reads: it is no log, or encrypted, or has another number");
 }
 

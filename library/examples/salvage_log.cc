@@ -3,9 +3,9 @@
 //     salvage_log LOG.. NEW [--number N]
 //
 // Each record that a scan of a LOG finds, also after damage, is written to NEW as it is, in the order of the files, if
-// it is a whole batch: all its operations are of kinds that RocksDB writes, and as many take a sequence as it says. N is
-// the LOGs' number, where their fragments have one; if it isn't given, it is that of a LOG's first header. In NEW they
-// have none. A LOG is only read. NEW must be new: it has its name once it is whole and synced, and NEW.part before.
+// it is a whole batch: all its operations are of kinds that RocksDB writes, and as many take a sequence as it says. N
+// is the LOGs' number, where their fragments have one; if it isn't given, it is that of a LOG's first header. In NEW
+// they have none. A LOG is only read. NEW must be new: it is called NEW.part until it is whole and synced.
 //
 // For each LOG it prints `unread FROM TO AT REASON` for a stretch before a record in which none reads, `left START END
 // REASON` for a record that isn't written, and where and why no more was read; and last how many records are written
@@ -32,14 +32,6 @@
 struct Stop {
     int status;
     std::string path, why;
-};
-
-// The name of a file that is removed where its scope ends.
-struct Removed {
-    const std::string& path;
-    ~Removed() {
-        unlink(path.c_str());
-    }
 };
 
 // A handle of the library that is closed where its scope ends. It is neither copied nor moved.
@@ -136,7 +128,8 @@ struct Salvage {
         while (code == WZ_DONE) {
             code = wz_scan_next(&scan.handle, log.data(), log.size(), &record, &gap, &end);
             if (code == WZ_UNREAD) {
-                std::cout << "unread " << gap.from << " " << gap.to << " " << gap.end.at << " " << reason(gap.end) << "\n";
+                std::cout << "unread " << gap.from << " " << gap.to << " " << gap.end.at;
+                std::cout << " " << reason(gap.end) << "\n";
                 stretches++;
                 unread += gap.to - gap.from;
             }
@@ -165,21 +158,24 @@ int main(int argc, char** argv) try {
     bool is_given = argc > 2 && std::string(argv[argc - 2]) == "--number";
     int last = argc - (is_given ? 3 : 1);
     if (last < 2) return std::cerr << "salvage_log LOG.. NEW [--number N]\n", 2;
+    uint32_t given = is_given ? static_cast<uint32_t>(std::strtoul(argv[argc - 1], nullptr, 10)) : 0;
     std::string path = argv[last], part = path + ".part";
     Salvage found{{std::fopen(part.c_str(), "wbx"), std::fclose}};
     std::FILE* file = found.file.get();
     if (file == nullptr) throw stop_by_system(part);
-    {
-        Removed removed{part};
+    try {
         for (int i = 1; i < last; i++) {
             std::string log;
             if (!read_file(argv[i], log)) throw Stop{3, argv[i], "it can't be read"};
-            uint32_t given = is_given ? static_cast<uint32_t>(std::strtoul(argv[argc - 1], nullptr, 10)) : number_of(log);
-            found.add_log(argv[i], log, given);
+            found.add_log(argv[i], log, is_given ? given : number_of(log));
         }
         if (std::fflush(file) != 0 || std::ferror(file) != 0 || fsync(fileno(file)) != 0) throw stop_by_system(part);
         if (link(part.c_str(), path.c_str()) != 0) throw stop_by_system(path);
+    } catch (...) {
+        unlink(part.c_str());
+        throw;
     }
+    unlink(part.c_str());
     // The file's entry in its folder is made safe too, which the file's own sync doesn't do.
     std::unique_ptr<DIR, int (*)(DIR*)> folder(opendir(dirname(&part[0])), closedir);
     if (folder == nullptr || fsync(dirfd(folder.get())) != 0) throw stop_by_system(path);

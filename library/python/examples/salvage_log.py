@@ -5,7 +5,7 @@
 Each record that a scan of a LOG finds, also after damage, is written to NEW as it is, in the order of the files, if it
 is a whole batch: all its operations are of kinds that RocksDB writes, and as many take a sequence as it says. N is the
 LOGs' number, where their fragments have one; if it isn't given, it is that of a LOG's first header. In NEW they have
-none. A LOG is only read. NEW must be new: it has its name once it is whole and synced, and NEW.part before that.
+none. A LOG is only read. NEW must be new: it is called NEW.part until it is whole and synced.
 
 For each LOG it prints `unread FROM TO AT REASON` for a stretch before a record in which none reads, `left START END
 REASON` for a record that isn't written, and where and why no more was read; and last how many records are written and
