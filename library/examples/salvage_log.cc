@@ -1,4 +1,4 @@
-// Writes what is whole in damaged logs of RocksDB or LevelDB as a new log, which both open in their strictest mode.
+// Writes what is whole in damaged logs of RocksDB or LevelDB as a new log, which opens in the strictest mode.
 //
 //     salvage_log LOG.. NEW [--number N]
 //

@@ -1,4 +1,4 @@
-//! Writes what is whole in damaged logs of RocksDB or LevelDB as a new log, which both open in their strictest mode.
+//! Writes what is whole in damaged logs of RocksDB or LevelDB as a new log, which opens in the strictest mode.
 //!
 //!     salvage_log LOG.. NEW [--number N]
 //!
@@ -65,6 +65,7 @@ fn fault_of(record: &[u8]) -> Option<Why> {
 
 /// The new log, and what is counted.
 struct Salvage<'a> {
+    part: &'a str,
     writer: LogWriter<&'a File>,
     kept: u64,
     left: u64,
@@ -94,7 +95,7 @@ impl Salvage<'_> {
                 println!("left {} {} {why}", found.record.start, found.record.end);
                 self.left += 1;
             } else {
-                self.writer.append(&found.record.bytes).map_err(stop_by_system("NEW"))?;
+                self.writer.append(&found.record.bytes).map_err(stop_by_system(self.part))?;
                 self.kept += 1;
             }
         }
@@ -113,7 +114,8 @@ impl Salvage<'_> {
 /// Writes the whole batches of the logs to a new file, and gives it its name.
 fn write_new(part: &str, new: &str, logs: &[String], given: Option<Option<NonZeroU32>>) -> Result<(), Stop> {
     let file = File::options().write(true).create_new(true).open(part).map_err(stop_by_system(part))?;
-    let mut found = Salvage { writer: LogWriter::new(&file, None), kept: 0, left: 0, stretches: 0, unread: 0 };
+    let writer = LogWriter::new(&file, None);
+    let mut found = Salvage { part, writer, kept: 0, left: 0, stretches: 0, unread: 0 };
     let written = logs.iter().try_for_each(|path| {
         let log = std::fs::read(path).map_err(|_| stop(3, path, "it can't be read"))?;
         found.add(path, &log, given)
