@@ -4,16 +4,13 @@
 """
 
 from plain_listing import is_damaged, own_number, scan_of, shown_of
-from plain_log import BLOCK, End, fragment_at
+from plain_log import BLOCK, fragment_of_code, number_of
 
 
-def is_compressed(log, number):
-    """Whether the log begins with the fragment by which RocksDB says that it is compressed."""
-    try:
-        fragment_at(log, 0, number)
-    except End as end:
-        return end.args == (0, "badtype 9")
-    return False
+def is_compressed(log):
+    """Whether the log begins with the fragment, of the kind 9, by which RocksDB says that it is compressed."""
+    end = 7 + number_of(log[4:6])
+    return end <= min(BLOCK, len(log)) and log[:end] == fragment_of_code(9, log[7:end])
 
 
 def salvage_of(logs, given=None):
@@ -23,7 +20,7 @@ def salvage_of(logs, given=None):
     for path, log in logs:
         number = own_number(log) if given is None else given or None
         lines.append(f"log {path}")
-        if log and is_compressed(log, number):
+        if is_compressed(log):
             return 8, lines, None
         items, at, why = scan_of(log, number, True)
         for item in items:

@@ -50,22 +50,32 @@ static void print_reason(wz_end end) {
     printf("\n");
 }
 
-/* Whether the fragment at the start of a block reads; otherwise *end says why not. */
-static bool reads_at(const uint8_t *log, size_t len, uint32_t number, uint64_t place, wz_end *end) {
+/* Whether the fragment at the start of a block reads. */
+static bool reads_at(const uint8_t *log, size_t len, uint32_t number, uint64_t place) {
     wz_reader reader = WZ_HANDLE_INIT;
     wz_record record;
+    wz_end end;
     wz_code code = wz_reader_open_at(&reader, number, place, log, len);
-    if (code == WZ_DONE) code = wz_reader_next(&reader, log, len, &record, end);
+    if (code == WZ_DONE) code = wz_reader_next(&reader, log, len, &record, &end);
     wz_reader_close(&reader);
-    return code != WZ_END || end->at > place || end->why == WZ_WHY_UNFINISHED || end->why == WZ_WHY_BAD_ORDER;
+    return code != WZ_END || end.at > place || end.why == WZ_WHY_UNFINISHED || end.why == WZ_WHY_BAD_ORDER;
+}
+
+static uint32_t number_in(const uint8_t *bytes) {
+    return bytes[0] | (uint32_t)bytes[1] << 8 | (uint32_t)bytes[2] << 16 | (uint32_t)bytes[3] << 24;
+}
+
+/* Whether RocksDB has compressed the log: its first fragment, of the kind 9, says so. */
+static bool is_compressed(const uint8_t *log, size_t len) {
+    if (len < 7 || log[6] != 9) return false;
+    size_t end = 7 + (log[4] | (size_t)log[5] << 8);
+    return end <= len && end <= WZ_BLOCK_LEN && number_in(log) == wz_crc32c_mask(wz_crc32c(log + 6, end - 6));
 }
 
 /* The number in the log's first header, if it has one and a fragment reads there with it, otherwise 0. */
 static uint32_t number_of(const uint8_t *log, size_t len) {
-    wz_end end;
     if (len < 11 || log[6] < 5 || log[6] > 8) return 0;
-    uint32_t number = log[7] | (uint32_t)log[8] << 8 | (uint32_t)log[9] << 16 | (uint32_t)log[10] << 24;
-    return reads_at(log, len, number, 0, &end) ? number : 0;
+    return reads_at(log, len, number_in(log + 7), 0) ? number_in(log + 7) : 0;
 }
 
 /* Whether a record is a whole batch of known operations; otherwise *why says why not. */
@@ -109,8 +119,7 @@ static int add_log(salvage *new, const char *path, const uint8_t *log, size_t le
     wz_end end;
     uint64_t before = new->kept + new->left;
     printf("log %s\n", path);
-    if (!reads_at(log, len, number, 0, &end) && end.why == WZ_WHY_BAD_TYPE && end.first == 9)
-        return stop(8, path, "it is compressed, which RocksDB reads, and this doesn't");
+    if (is_compressed(log, len)) return stop(8, path, "it is compressed, which RocksDB reads, and this doesn't");
     wz_code code = wz_scan_open_at(&scan, number, 0, log, len);
     while (code == WZ_DONE) {
         code = wz_scan_next(&scan, log, len, &record, &unread, &end);
@@ -126,7 +135,7 @@ static int add_log(salvage *new, const char *path, const uint8_t *log, size_t le
     if (code != WZ_END) return stop(3, path, wz_code_text(code));
     printf("end %" PRIu64, end.at), print_reason(end);
     bool reads = len == 0 || new->kept + new->left > before;
-    for (size_t at = 0; !reads && at < len; at += WZ_BLOCK_LEN) reads = reads_at(log, len, number, at, &end);
+    for (size_t at = 0; !reads && at < len; at += WZ_BLOCK_LEN) reads = reads_at(log, len, number, at);
     return reads ? 0 : stop(8, path, "not one fragment reads: it is no log, or encrypted, or has another number");
 }
 

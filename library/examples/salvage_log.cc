@@ -60,22 +60,36 @@ static std::string reason(const wz_end& end) {
     return found;
 }
 
-// Whether the fragment at the start of a block reads; otherwise `end` says why not.
-static bool reads_at(const std::string& log, uint32_t number, uint64_t place, wz_end& end) {
+// Whether the fragment at the start of a block reads.
+static bool reads_at(const std::string& log, uint32_t number, uint64_t place) {
     Closed<wz_reader, wz_reader_close> reader;
     wz_record record = {};
+    wz_end end = {};
     wz_code code = wz_reader_open_at(&reader.handle, number, place, log.data(), log.size());
     if (code == WZ_DONE) code = wz_reader_next(&reader.handle, log.data(), log.size(), &record, &end);
     return code != WZ_END || end.at > place || end.why == WZ_WHY_UNFINISHED || end.why == WZ_WHY_BAD_ORDER;
 }
 
+// The number that bytes are, the lowest byte first.
+static uint32_t number_in(const std::string& bytes) {
+    uint32_t number = 0;
+    for (size_t i = bytes.size(); i-- > 0;) number = number << 8 | static_cast<uint8_t>(bytes[i]);
+    return number;
+}
+
+// Whether RocksDB has compressed the log: its first fragment, of the kind 9, says so.
+static bool is_compressed(const std::string& log) {
+    if (log.size() < 7 || log[6] != 9) return false;
+    size_t end = 7 + number_in(log.substr(4, 2));
+    if (end > log.size() || end > WZ_BLOCK_LEN) return false;
+    return number_in(log.substr(0, 4)) == wz_crc32c_mask(wz_crc32c(&log[6], end - 6));
+}
+
 // The number in the log's first header, if it has one and a fragment reads there with it, otherwise 0.
 static uint32_t number_of(const std::string& log) {
-    wz_end end = {};
-    uint32_t number = 0;
     if (log.size() < 11 || log[6] < 5 || log[6] > 8) return 0;
-    for (size_t i = 11; i-- > 7;) number = number << 8 | static_cast<uint8_t>(log[i]);
-    return reads_at(log, number, 0, end) ? number : 0;
+    uint32_t number = number_in(log.substr(7, 4));
+    return reads_at(log, number, 0) ? number : 0;
 }
 
 // Why a record is no whole batch of known operations, or no text if it is one.
@@ -122,8 +136,7 @@ struct Salvage {
         wz_end end = {};
         uint64_t before = kept + left;
         std::cout << "log " << path << "\n";
-        if (!reads_at(log, number, 0, end) && end.why == WZ_WHY_BAD_TYPE && end.first == 9)
-            throw Stop{8, path, "it is compressed, which RocksDB reads, and this doesn't"};
+        if (is_compressed(log)) throw Stop{8, path, "it is compressed, which RocksDB reads, and this doesn't"};
         wz_code code = wz_scan_open_at(&scan.handle, number, 0, log.data(), log.size());
         while (code == WZ_DONE) {
             code = wz_scan_next(&scan.handle, log.data(), log.size(), &record, &gap, &end);
@@ -141,7 +154,7 @@ struct Salvage {
         if (code != WZ_END) throw Stop{3, path, wz_code_text(code)};
         std::cout << "end " << end.at << " " << reason(end) << "\n";
         bool reads = log.empty() || kept + left > before;
-        for (size_t at = 0; !reads && at < log.size(); at += WZ_BLOCK_LEN) reads = reads_at(log, number, at, end);
+        for (size_t at = 0; !reads && at < log.size(); at += WZ_BLOCK_LEN) reads = reads_at(log, number, at);
         if (!reads) throw Stop{8, path, "not one fragment reads: it is no log, or encrypted, or has another number"};
     }
 };

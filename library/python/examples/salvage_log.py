@@ -28,18 +28,23 @@ def stop(status, path, why):
     sys.exit(status)
 
 
-def fault_at(log, number, place):
-    """Why the fragment at the start of a block doesn't read, or None if it does."""
+def reads_at(log, number, place):
+    """Whether the fragment at the start of a block reads."""
     records = wolzenn.Records(log, number, place)
-    if next(records, None) or records.end.at > place or records.end.why in (Why.UNFINISHED, Why.BAD_ORDER):
-        return None
-    return records.end
+    return bool(next(records, None)) or records.end.at > place or records.end.why in (Why.UNFINISHED, Why.BAD_ORDER)
+
+
+def is_compressed(log):
+    """Whether RocksDB has compressed the log: its first fragment, of the kind 9, says so."""
+    end = 7 + int.from_bytes(log[4:6], "little")
+    masked = wolzenn.crc32c_mask(wolzenn.crc32c(log[6:end])).to_bytes(4, "little")
+    return log[6:7] == b"\x09" and end <= min(len(log), wolzenn.BLOCK_LEN) and log[:4] == masked
 
 
 def number_of(log):
     """The number in the log's first header, if it has one and a fragment reads there with it, otherwise 0."""
     number = int.from_bytes(log[7:11], "little") if len(log) >= 11 and 5 <= log[6] <= 8 else 0
-    return 0 if fault_at(log, number, 0) else number
+    return number if reads_at(log, number, 0) else 0
 
 
 def fault_of(data):
@@ -63,8 +68,8 @@ class Salvage:
     def add(self, path, log, number):
         """Writes the whole batches of a log."""
         print("log", path)
-        fault, before = fault_at(log, number, 0), self.kept + self.left
-        if fault and (fault.why, fault.first) == (Why.BAD_TYPE, 9):
+        before = self.kept + self.left
+        if is_compressed(log):
             stop(8, path, "it is compressed, which RocksDB reads, and this doesn't")
         scan = wolzenn.Scan(log, number)
         for unread, record in scan:
@@ -80,7 +85,7 @@ class Salvage:
                 self.kept += 1
         print("end", scan.end)
         places = range(0, len(log), wolzenn.BLOCK_LEN)
-        if log and self.kept + self.left == before and all(fault_at(log, number, place) for place in places):
+        if log and self.kept + self.left == before and not any(reads_at(log, number, place) for place in places):
             stop(8, path, "not one fragment reads: it is no log, or encrypted, or has another number")
 
 

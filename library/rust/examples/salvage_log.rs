@@ -19,7 +19,7 @@ use std::io;
 use std::num::NonZeroU32;
 use std::path::Path;
 use std::process::ExitCode;
-use wolzenn::{batch_head, End, Error, LogWriter, Operations, Records, Scan, Why};
+use wolzenn::{batch_head, crc32c, crc32c_mask, Error, LogWriter, Operations, Records, Scan, Why, BLOCK_LEN};
 
 /// Why the program ends: its status, and a sentence.
 struct Stop(u8, String);
@@ -33,11 +33,18 @@ fn stop_by_system(path: &str) -> impl Fn(io::Error) -> Stop + '_ {
     move |error| stop(if error.kind() == io::ErrorKind::AlreadyExists { 7 } else { 3 }, path, error)
 }
 
-/// Why the fragment at the start of a block doesn't read, or `None` if it does.
-fn fault_at(log: &[u8], number: Option<NonZeroU32>, place: u64) -> Result<Option<End>, Error> {
+/// Whether the fragment at the start of a block reads.
+fn reads_at(log: &[u8], number: Option<NonZeroU32>, place: u64) -> Result<bool, Error> {
     let mut records = Records::after(log, number, place)?;
     records.next().transpose()?;
-    Ok(records.end().filter(|end| end.at == place && !matches!(end.why, Why::Unfinished | Why::BadOrder)))
+    Ok(records.end().is_none_or(|end| end.at > place || matches!(end.why, Why::Unfinished | Why::BadOrder)))
+}
+
+/// Whether RocksDB has compressed the log: its first fragment, of the kind 9, says so.
+fn is_compressed(log: &[u8]) -> bool {
+    let [a, b, c, d, low, high, 9, ..] = *log else { return false };
+    let end = 7 + usize::from(u16::from_le_bytes([low, high]));
+    end <= log.len().min(BLOCK_LEN) && u32::from_le_bytes([a, b, c, d]) == crc32c_mask(crc32c(&log[6..end]))
 }
 
 /// The number in the log's first header, if it has one and a fragment reads there with it.
@@ -46,7 +53,7 @@ fn number_of(log: &[u8]) -> Result<Option<NonZeroU32>, Error> {
         [_, _, _, _, _, _, 5..=8, a, b, c, d, ..] => NonZeroU32::new(u32::from_le_bytes([*a, *b, *c, *d])),
         _ => None,
     };
-    Ok(number.filter(|_| matches!(fault_at(log, number, 0), Ok(None))))
+    Ok(if reads_at(log, number, 0)? { number } else { None })
 }
 
 /// Why a record is no whole batch of known operations, or `None` if it is one.
@@ -79,7 +86,7 @@ impl Salvage<'_> {
         let failed = |error: Error| stop(3, path, error);
         println!("log {path}");
         let number = given.map_or_else(|| number_of(log), Ok).map_err(failed)?;
-        if fault_at(log, number, 0).map_err(failed)?.is_some_and(|end| end.why == Why::BadType(9)) {
+        if is_compressed(log) {
             return Err(stop(8, path, "it is compressed, which RocksDB reads, and this doesn't"));
         }
         let before = self.kept + self.left;
@@ -102,9 +109,9 @@ impl Salvage<'_> {
         if let Some(end) = scan.end() {
             println!("end {end}");
         }
-        let mut places = (0..log.len() as u64).step_by(wolzenn::BLOCK_LEN);
+        let mut places = (0..log.len() as u64).step_by(BLOCK_LEN);
         let reads = log.is_empty() || self.kept + self.left > before;
-        if !reads && places.all(|place| matches!(fault_at(log, number, place), Ok(Some(_)))) {
+        if !reads && !places.any(|place| reads_at(log, number, place).unwrap_or(true)) {
             return Err(stop(8, path, "not one fragment reads: it is no log, or encrypted, or has another number"));
         }
         Ok(())
