@@ -1,0 +1,5 @@
+pub mod Keeping
+pub mod Counting
+pub mod NewLogs
+pub mod Steps
+pub mod Salvaging
