@@ -36,7 +36,9 @@ impl Counts {
         ensures { self.new ≡ counting.with_step step self.old }
     {
         if let Step::Record {
-            unread, left_out, ..
+            unread,
+            left_out,
+            ..
         } = step
         {
             self.add_unread(unread);

@@ -1,6 +1,6 @@
 //! One step of a salvage.
 
-ghost use Rattle.std.specs.Prelude.{◌≡◌, ◌<◌, ◌×◌, ◌^◌, ℕ, List, None, true, IfOk, IfErr, IfSome, OnOk};
+ghost use Rattle.std.specs.Prelude.{◌≡◌, ◌<◌, ◌^◌, ℕ, List, None, true, IfOk, IfErr, IfSome, OnOk};
 ghost use Rattle.log_scan.specs.Scanner.{IsAt, IsGoing};
 ghost use Rattle.log_salvage.specs.Keeping.{HasVerdict};
 ghost use Rattle.log_salvage.specs.NewLogs.{HasAddCause, IsAddError};
@@ -29,9 +29,14 @@ pub enum Step {
     /// Nothing reads here. The next step tries it at a later place.
     Passed,
     /// No record follows: where and why reading first ended since the last record.
-    End { at: u64, why: EndReason },
+    End {
+        at: u64,
+        why: EndReason,
+    },
     /// The disk failed, and this is its count of faults.
-    Fault { count: u64 },
+    Fault {
+        count: u64,
+    },
     /// The sink failed, and took a part of a record's text, but not all.
     SinkFailed,
     /// With the next record the new log would have 2^63 bytes or more.
