@@ -1,3 +1,4 @@
 pub mod Judging
 pub mod Stepped
 pub mod Whole
+pub mod Held

@@ -310,3 +310,7 @@ none_told (Some file) range number place first start none = adds_none range (sou
 pub no_room_told : (told : Option (List ℕ)) (range : Range) (number : Option ℕ) (first : Written) → Appends first.taken first.taken [] → IfSome told (λ file. AnswersSalvage range (source_of number file) first first salvaged.NoMemory)
 no_room_told None range number first none = tt
 no_room_told (Some file) range number first none = (0, adds_none range (source_of number file) 0 first refl none)
+
+pub no_bytes : (taken : Option (List ℕ)) → Appends taken taken []
+no_bytes None = tt
+no_bytes (Some bytes) = sym (append-nil bytes)

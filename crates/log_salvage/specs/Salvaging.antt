@@ -2,7 +2,7 @@
 use Rattle.std.specs.Prelude.{◌≡◌, ℕ, ◌+◌, ◌^◌, ◌≤◌, true, List, length, take, Option, Some, None}
 use Rattle.std.specs.Io.KnownBytes.{Appends}
 use Rattle.base_devices.specs.Faults.{Rose}
-use Rattle.model_base.specs.Log.{text_from}
+use Rattle.model_base.specs.Log.{SpellsWhole, text_from}
 use Rattle.log_scan.specs.Scanning.{Item, Finds, IsScan}
 use Rattle.log_salvage.specs.Counting.{AreCounts}
 use Rattle.log_salvage.specs.Keeping.{AreKept}
@@ -45,6 +45,13 @@ pub record AddsAll (range : Range) (source : Source) (place : ℕ) (items : List
 -- the same of some front of what is found
 abbrev pub AddsFront : Range → Source → Written → Written → Type 0
 AddsFront range source old new = (place : ℕ) × (items : List Item) × AddsAll range source place items old new
+
+-- The sink told all that it has taken, and that is the new log: it spells these records.
+pub record HoldsLog (w : Written) (records : List (List ℕ)) : Type 0 where
+  pub text : List ℕ
+  pub taken : w.taken ≡ Some text
+  pub len : w.log.len ≡ length text
+  pub spelled : SpellsWhole w.log.number text records
 
 -- All that a scan finds was gone through. If the disk failed, memory ran out or the new log got too long, that is so of
 -- a front of it; if the sink failed, it took a part of the text of such a front.
