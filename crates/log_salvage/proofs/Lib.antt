@@ -1,4 +1,3 @@
 pub mod Judging
-pub mod Stepped
 pub mod Whole
 pub mod Held

@@ -8,11 +8,11 @@ use Rattle.log_laws.proofs.Placed.{end_none, placed_append}
 use Rattle.log_laws.proofs.ReadSynced.{stand_behind}
 use Rattle.log_recovery_laws.proofs.Spelled.{stand_front}
 use Rattle.log_laws.proofs.Next.{seen_past}
-use Rattle.log_scan.specs.Scanning.{Ends, Finds, Item, IsScan, Scan, found_more, found_none, not_skipped, whole}
+use Rattle.log_scan.specs.Scanning.{Ends, Finds, Item, found_more, found_none, not_skipped, whole}
 use Rattle.list_log.proofs.Joined.{finds_join}
 use Rattle.log_salvage.specs.Keeping.{AreKept, HasVerdict, no_records, with_kept}
 use Rattle.log_salvage.specs.declared.keeping.Range.{Range}
-use Rattle.log_salvage_laws.proofs.OneList.{one_list}
+use Rattle.log_salvage_laws.specs.Kept.{Keeps}
 
 -- from this offset on the records of these fragments are found and kept
 record Gives (range : Range) (number : Option ℕ) (file : List ℕ) (offset : ℕ) (groups : List (List Fragment)) : Type 0 where
@@ -72,14 +72,16 @@ ends_clean number file offset past = record {
   first_is = refl;
 }
 
-pub gives_itself : (range : Range) (number : Option ℕ) (file : List ℕ) (scan : Scan) (records kept : List (List ℕ)) → SpellsWhole number file records → AllByRecursion (λ bytes. HasVerdict range bytes None) records
-    → IsScan number true file scan → AreKept range scan.items kept → kept ≡ records
-gives_itself range number file scan records kept spells verdicts is are =
+pub gives_itself : (range : Range) (number : Option ℕ) (file : List ℕ) (records : List (List ℕ)) → SpellsWhole number file records → AllByRecursion (λ bytes. HasVerdict range bytes None) records
+    → Keeps range number file records
+gives_itself range number file records spells verdicts =
     let fragments = all_fragments spells.groups in
     let text = fragments_text number 0 fragments in
     let len : length file ≡ length text = ap length spells.spelled in
     let stand : HasFragments number file 0 fragments = record { rest = []; there = spells.spelled ∙ sym (append-nil text); fit = spells.fit } in
     let all = gives range number file 0 spells.groups spells.whole stand (omega (arith, len)) (subst (AllByRecursion (λ bytes. HasVerdict range bytes None)) spells.same verdicts) in
-    let whole_scan : Scan = record { items = all.items; at = length file; why = ends.Clean } in
-    let mine : IsScan number true file whole_scan = record { place = end_of number 0 fragments; finds = all.finds; ends = ends_clean number file (end_of number 0 fragments) (omega (arith, len)) } in
-    one_list range number file scan whole_scan kept (map record_of spells.groups) is are mine all.kept ∙ sym spells.same
+    record {
+      scan = record { items = all.items; at = length file; why = ends.Clean };
+      is = record { place = end_of number 0 fragments; finds = all.finds; ends = ends_clean number file (end_of number 0 fragments) (omega (arith, len)) };
+      are = subst (AreKept range all.items) (sym spells.same) all.kept;
+    }

@@ -1,12 +1,12 @@
 -- The records that are kept are one list.
 use Rattle.std.proofs.Common.{◌≡◌, ℕ, true, List, [], ◌∷◌, ◌++◌, Option, Some, None, refl, sym, ◌∙◌, ap, subst}
 use Rattle.batch_operations.proofs.OneShown.{one_shown}
-use Rattle.log_scan.specs.Scanning.{Item, IsScan, Scan, whole, unread}
+use Rattle.log_scan.specs.Scanning.{Item, Scan, whole, unread}
 use Rattle.log_scan_laws.proofs.OneScan.{one_scan}
 use Rattle.log_salvage.specs.Keeping.{AreKept, HasVerdict, no_records, verdict, with_kept, with_left_out, with_stretch}
 use Rattle.log_salvage.specs.declared.keeping.LeftOut.{LeftOut}
 use Rattle.log_salvage.specs.declared.keeping.Range.{Range}
-use Rattle.log_salvage_laws.specs.Kept.{HasRecord}
+use Rattle.log_salvage_laws.specs.Kept.{HasRecord, Keeps}
 
 one_verdict : (range : Range) (bytes : List ℕ) (one other : Option LeftOut) → HasVerdict range bytes one → HasVerdict range bytes other → one ≡ other
 one_verdict range bytes one other first second = first.2 ∙ (ap (verdict range) (one_shown bytes first.0 second.0 first.1 second.1) ∙ sym second.2)
@@ -23,10 +23,9 @@ kept_once range items _ _ (with_left_out {bytes = bytes} {why = why} out more) (
 kept_once range items _ _ (with_left_out {items = rest} {records = r} out more) (with_left_out {records = s} also other) = kept_once range rest r s more other
 kept_once range items _ _ (with_stretch {items = rest} {records = r} more) (with_stretch {records = s} other) = kept_once range rest r s more other
 
-pub one_list : (range : Range) (number : Option ℕ) (file : List ℕ) (one other : Scan) (records others : List (List ℕ)) → IsScan number true file one → AreKept range one.items records → IsScan number true file other
-    → AreKept range other.items others → records ≡ others
-one_list range number file one other records others is are also too =
-    kept_once range other.items records others (subst (λ (s : Scan). AreKept range s.items records) (one_scan number true file one other is also) are) too
+pub one_list : (range : Range) (number : Option ℕ) (file : List ℕ) (records others : List (List ℕ)) → Keeps range number file records → Keeps range number file others → records ≡ others
+one_list range number file records others one other =
+    kept_once range other.scan.items records others (subst (λ (s : Scan). AreKept range s.items records) (one_scan number true file one.scan other.scan one.is other.is) one.are) other.are
 
 -- ---- a record that is found, and to be kept, is kept
 

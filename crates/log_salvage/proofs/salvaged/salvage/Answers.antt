@@ -6,8 +6,8 @@ use Rattle.log_salvage.specs.Salvaging.{ended}
 use Rattle.log_salvage.proofs.Whole.{at_told, end_told, goes, if_all, no_bytes, no_room_told, none_told, on_told, uncaused, written}
 use Rattle.log_salvage.proofs.salvaged.salvage.Goals as goal
 
-pub loop-step-init : goal.loop-step-init
-loop-step-init g c =
+pub loop-salvaged-init : goal.loop-salvaged-init
+loop-salvaged-init g c =
     let told = g.R.ReadAt.held c.args.disk.now in
     let made = c.in-Ok.ensures in
     let taken = g.K.Sink.taken c.args.sink.now in
@@ -23,20 +23,20 @@ loop-step-init g c =
       disk = g.met.R.ReadAt.reads_none c.args.disk.now;
     }
 
-pub loop-step-preserved : goal.loop-step-preserved
-loop-step-preserved g c =
+pub loop-salvaged-preserved : goal.loop-salvaged-preserved
+loop-salvaged-preserved g c =
     let told = g.R.ReadAt.held c.args.disk.now in
-    let now = g.R.ReadAt.held c.loop-step.disk in
-    let old = c.loop-step.invariant in
-    let state = c.loop-step.salvaging in
+    let now = g.R.ReadAt.held c.loop-salvaged.disk in
+    let old = c.loop-salvaged.invariant in
+    let state = c.loop-salvaged.salvaging in
     let new = c.next-step.new.self in
     let next = c.next-step.ensures in
     let s = c.next-step.result in
     let on : ended s ≡ None = sym c.ended.ensures ∙ c.in_default.is in
     let same : now ≡ told = g.met.R.ReadAt.reads_keep _ _ old.disk in
-    let causes = uncaused s (g.R.ReadAt.failures c.loop-step.disk) (g.R.ReadAt.failures c.next-step.new.disk) (g.K.Sink.faults c.loop-step.sink) (g.K.Sink.faults c.next-step.new.sink) on (next.causes old.going) in
+    let causes = uncaused s (g.R.ReadAt.failures c.loop-salvaged.disk) (g.R.ReadAt.failures c.next-step.new.disk) (g.K.Sink.faults c.loop-salvaged.sink) (g.K.Sink.faults c.next-step.new.sink) on (next.causes old.going) in
     let first = written c.args.new_log.now c.args.counts.now (g.K.Sink.taken c.args.sink.now) in
-    let mid = written c.loop-step.new_log c.loop-step.counts (g.K.Sink.taken c.loop-step.sink) in
+    let mid = written c.loop-salvaged.new_log c.loop-salvaged.counts (g.K.Sink.taken c.loop-salvaged.sink) in
     let after = written c.next-step.new.new_log c.add.new.self (g.K.Sink.taken c.next-step.new.sink) in
     record {
       range = next.range ∙ old.range;
@@ -53,14 +53,14 @@ loop-step-preserved g c =
 pub returns-in-Some-clause-salvaged : goal.returns-in-Some-clause-salvaged
 returns-in-Some-clause-salvaged g c =
     let told = g.R.ReadAt.held c.args.disk.now in
-    let now = g.R.ReadAt.held c.loop-step.disk in
-    let old = c.loop-step.invariant in
-    let state = c.loop-step.salvaging in
+    let now = g.R.ReadAt.held c.loop-salvaged.disk in
+    let old = c.loop-salvaged.invariant in
+    let state = c.loop-salvaged.salvaging in
     let new = c.next-step.new.self in
     let next = c.next-step.ensures in
     let same : now ≡ told = g.met.R.ReadAt.reads_keep _ _ old.disk in
     let first = written c.args.new_log.now c.args.counts.now (g.K.Sink.taken c.args.sink.now) in
-    let mid = written c.loop-step.new_log c.loop-step.counts (g.K.Sink.taken c.loop-step.sink) in
-    let after = written c.next-step.new.new_log c.loop-step.counts (g.K.Sink.taken c.next-step.new.sink) in
+    let mid = written c.loop-salvaged.new_log c.loop-salvaged.counts (g.K.Sink.taken c.loop-salvaged.sink) in
+    let after = written c.next-step.new.new_log c.loop-salvaged.counts (g.K.Sink.taken c.next-step.new.sink) in
     end_told told now c.args.range state.range c.args.number state.scanner new.scanner first mid after c.next-step.result c.in-Some.salvaged same old.range old.number old.goes_on old.going (sym c.ended.ensures ∙ c.in-Some.is) next.found
     next.written refl old.at old.added

@@ -4,8 +4,8 @@ use Rattle.log_salvage.proofs.Whole.{AddsTo, source_of, written}
 use Rattle.log_salvage.proofs.salvaged.salvage.Given as goal
 
 -- the records that are kept of what is found before the scanner's place were added
-abbrev pub invariant-loop-step : goal.invariant-loop-step
-invariant-loop-step g l = record {
+abbrev pub invariant-loop-salvaged : goal.invariant-loop-salvaged
+invariant-loop-salvaged g l = record {
   range : l.salvaging.range ≡ l.fn.range;
   number : l.salvaging.scanner.number ≡ l.fn.number;
   goes_on : l.salvaging.scanner.goes_on ≡ true;
@@ -18,5 +18,5 @@ invariant-loop-step g l = record {
   disk : g.R.ReadAt.only_reads l.fn.disk l.disk;
 }
 
-abbrev pub decreases-loop-step : goal.decreases-loop-step
-decreases-loop-step g l = 2 ^ 63 - l.salvaging.scanner.here
+abbrev pub decreases-loop-salvaged : goal.decreases-loop-salvaged
+decreases-loop-salvaged g l = 2 ^ 63 - l.salvaging.scanner.here
