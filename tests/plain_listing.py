@@ -7,8 +7,8 @@ plain `wzlog`: `python3 tests/plain_listing.py list LOG --text`. It says nothing
 import argparse
 import sys
 
-from plain_log import BLOCK, FIRST, FULL, LAST, End, NoBatch, accepts, fragment_at, header_len, length_at, number_of
-from plain_log import recover_into
+from plain_log import BLOCK, FIRST, FULL, LAST, End, NoBatch, accepts, fragment_at, fragment_of_code, header_len
+from plain_log import length_at, number_of, recover_into
 
 # The tags: the word, whether a family is named, how many strings follow, and whether the operation takes a sequence.
 TAGS = {
@@ -122,10 +122,16 @@ def is_damaged(log, at, number):
     return False
 
 
+def is_compressed(log):
+    """Whether the first fragment is a whole one of kind 9 (RocksDB's `kSetCompressionType`), whose header has 7 bytes."""
+    end = 7 + number_of(log[4:6])
+    return 7 <= len(log) and end <= min(BLOCK, len(log)) and log[:end] == fragment_of_code(9, log[7:end])
+
+
 def resumes_at(log, at, why, number):
     """Where reading is tried again after it has ended, or None."""
     size, header = header_len(number), log[at : at + header_len(number)]
-    if why in ("clean", "unfinished"):
+    if why in ("clean", "unfinished") or (at == 0 and is_compressed(log)):
         return None
     if why == "badorder":
         kind = header[6] - (0 if number is None else 4)
@@ -164,6 +170,11 @@ def own_number(log):
     """The number in the first header, if it has one and a fragment reads there with it."""
     number = number_of(log[7:11]) if len(log) >= 11 and 5 <= log[6] <= 8 else None
     return None if number is None or is_damaged(log, 0, number) else number
+
+
+def number_for(log, said):
+    """The number with which a log is read: the one that is said, and otherwise its own."""
+    return own_number(log) if said is None else said
 
 
 # ---- words and lines
@@ -257,7 +268,7 @@ def between(form, before, head):
 
 def listing_of(log, number=None, first=0, last=GREATEST, key=None, form=Form(False, False), goes_on=False):
     """What `list` prints of a log, and with `goes_on` what `scan` does."""
-    items, at, why = scan_of(log, own_number(log) if number is None else number, goes_on)
+    items, at, why = scan_of(log, number_for(log, number), goes_on)
     text, before = [form.front()] if goes_on else [], None
     for item in items:
         if len(item) == 4:
@@ -276,7 +287,7 @@ def listing_of(log, number=None, first=0, last=GREATEST, key=None, form=Form(Fal
 
 def summary_of_log(log, number=None, first=0, last=GREATEST, key=None, form=Form(False, False), goes_on=False):
     """What `list --summary` or `scan --summary` prints of a log."""
-    items, at, why = scan_of(log, own_number(log) if number is None else number, goes_on)
+    items, at, why = scan_of(log, number_for(log, number), goes_on)
     records, sequences, tallies, stretches, size = 0, [], {}, 0, 0
     for item in items:
         if len(item) == 4:
@@ -312,7 +323,7 @@ def summary_of_log(log, number=None, first=0, last=GREATEST, key=None, form=Form
 def state_of(log, number=None, form=Form(False, False)):
     """What `state` prints of a log, and where and why recovery ends."""
     groups, pairs = [], {}
-    last, at, why = recover_into(groups, pairs, log, number)
+    last, at, why = recover_into(groups, pairs, log, number_for(log, number))
     rows, groups = sorted(pairs.items()), [line.split() for line in groups]
     if form.json:
         text = [f'{{"groups":{len(groups)}}}\n']
@@ -333,7 +344,7 @@ def state_of(log, number=None, form=Form(False, False)):
 def key_of(word, text):
     """The key that a word spells."""
     if not text:
-        return bytes.fromhex(word)
+        return b"" if word == "-" else bytes.fromhex(word)
     key, place, given = bytearray(), 0, word.encode()
     while place < len(given):
         if given[place : place + 2] == b"\\\\":
@@ -366,7 +377,7 @@ def main():
     form = Form(asked["json"], asked["text"])
     if asked["command"] == "state":
         text, at, why = state_of(log, asked["number"], form)
-        if not accepts(asked["mode"] or "point", log, at, why.split()[0], asked["number"]):
+        if not accepts(asked["mode"] or "point", log, at, why.split()[0], number_for(log, asked["number"])):
             sys.exit(8)
     else:
         key = None if asked["key"] is None else key_of(asked["key"], asked["text"])

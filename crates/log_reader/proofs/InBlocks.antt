@@ -19,19 +19,23 @@ use Rattle.log_recovery_laws.proofs.SeenFragment.{fragment_is}
 use Rattle.log_reader.proofs.NextSeen.{header_some, none_due, some_due, seen_none, IsNothing, nothing_is, zeros_left, none_left, next_stands}
 
 -- how many bytes of the block are left at a place of it, computed from the offset in the file
-room_in_block : (start at : ℕ) → start % 32768 ≡ 0 → at < 32768 → room (start + at) ≡ 32768 - at
+pub room_in_block : (start at : ℕ) → start % 32768 ≡ 0 → at < 32768 → room (start + at) ≡ 32768 - at
 room_in_block start at aligned less = omega arith
 
 -- the block's bytes from that place on, as bytes of the file
-there_in_block : (file : List ℕ) (start at : ℕ) → at ≤ 32768 → drop at (take 32768 (drop start file)) ≡ take (32768 - at) (drop (start + at) file)
+pub there_in_block : (file : List ℕ) (start at : ℕ) → at ≤ 32768 → drop at (take 32768 (drop start file)) ≡ take (32768 - at) (drop (start + at) file)
 there_in_block file start at le =
     let whole : 32768 ≡ at + (32768 - at) = omega arith in
     ap (λ (n : ℕ). drop at (take n (drop start file))) whole ∙ (drop-take at (32768 - at) (drop start file) ∙ ap (take (32768 - at)) (drop-drop at start file))
 
+-- what is seen in the bytes of a block is what the file has there
+pub seen_in_bytes : (number : Option ℕ) (file block : List ℕ) (start at : ℕ) → start % 32768 ≡ 0 → block ≡ take 32768 (drop start file) → at < 32768 → seen_at number file (start + at) ≡ seen_in_block number block at
+seen_in_bytes number file block start at aligned bytes less =
+    ap (λ (n : ℕ). seen_within number n (take n (drop (start + at) file))) (room_in_block start at aligned less)
+    ∙ ap (seen_within number (32768 - at)) (sym (ap (drop at) bytes ∙ there_in_block file start at (omega arith)))
+
 seen_as_block : (number : Option ℕ) (file block : List ℕ) (start at : ℕ) → IsBlock file start block → at < 32768 → seen_at number file (start + at) ≡ seen_in_block number block at
-seen_as_block number file block start at is less =
-    ap (λ (n : ℕ). seen_within number n (take n (drop (start + at) file))) (room_in_block start at is.aligned less)
-    ∙ ap (seen_within number (32768 - at)) (sym (ap (drop at) is.bytes ∙ there_in_block file start at (omega arith)))
+seen_as_block number file block start at is less = seen_in_bytes number file block start at is.aligned is.bytes less
 
 -- where the elements of the block are bytes, so are those of the file from that place to the end of the block
 bytes_there : (file block : List ℕ) (start at : ℕ) → IsBlock file start block → at < 32768 → AreBytes block → AreBytes (take (room (start + at)) (drop (start + at) file))
@@ -44,7 +48,7 @@ block_len : (file block : List ℕ) (start : ℕ) → IsBlock file start block �
 block_len file block start is = omega (arith, ap length is.bytes, length-take 32768 (drop start file))
 
 -- after the block's last byte nothing is seen in it
-seen_behind : (number : Option ℕ) (block : List ℕ) (at : ℕ) → length block ≤ at → seen_in_block number block at ≡ nothing
+pub seen_behind : (number : Option ℕ) (block : List ℕ) (at : ℕ) → length block ≤ at → seen_in_block number block at ≡ nothing
 seen_behind number block at past = ap (seen_within number (32768 - at)) (drop_of_length-le block past) ∙ seen_none number (32768 - at)
 
 -- a fragment in the block is what the reader of the file sees next

@@ -1,12 +1,17 @@
 -- What a reader sees in its window.
-use Rattle.std.proofs.Common.{◌≡◌, ℕ, ◌+◌, ◌-◌, ◌≤◌, List, length, take, drop, Option, true, refl, sym, ◌∙◌, ap, subst, arith, length-take, length-drop}
-use Rattle.model_base.specs.Reading.{next_seen}
+use Rattle.std.proofs.Common.{◌≡◌, ◌⊎◌, inl, inr, ℕ, ◌+◌, ◌-◌, ◌<◌, ◌≤◌, min, List, length, take, drop, slice_range, nat_lt, Option, true, refl, sym, ◌∙◌, ap, subst, arith, length-take, length-drop}
+use Rattle.std.proofs.lemmas.Bool.{lt-ltb, le-ltb, cases_lt}
+use Rattle.std.proofs.lemmas.List.{take_all}
+use Rattle.model_base.specs.Log.{room}
+use Rattle.model_base.specs.Reading.{next_seen, seen_at, seen_in_block}
+use Rattle.log_laws.proofs.Next.{seen_past}
 use Rattle.log_block.specs.declared.fragments.Seen.{Seen}
 use Rattle.log_block.specs.declared.fragments.Seen.TheVariants as seen
 use Rattle.log_reader.specs.declared.window.Window.{Window}
 use Rattle.log_reader.specs.Blocks.{IsBlock, SeesSameFrom, SeenNext, SeenThere, PartIn}
 use Rattle.log_reader.specs.Opens.{starts_at}
-use Rattle.log_reader.specs.Windows.{IsSound, IsOn, offset_of, bytes_of}
+use Rattle.log_reader.specs.Windows.{IsSound, IsOn, IsMovedTo, HasBytes, offset_of, bytes_of}
+use Rattle.log_reader.proofs.InBlocks.{room_in_block, there_in_block, seen_in_bytes, seen_behind}
 
 -- A reader of a log of this format that was at the old window is at the new one: if the old one is on the file, so is
 -- the new one, and from both the same is seen next.
@@ -50,8 +55,48 @@ length-bytes w sound = omega (arith, length-take w.len w.room.items, sound.room,
 pub lies : (w : Window) (slice : List ℕ) (s : Seen) → IsSound w → slice ≡ w.room.items → PartIn (length (take w.len slice)) w.at s → PartIn w.len w.at s
 lies w slice s sound same is = subst (λ (n : ℕ). PartIn n w.at s) (ap (λ (l : List ℕ). length (take w.len l)) same ∙ length-bytes w sound) is
 
--- A place of the file is in the block that begins where `starts_at` says, once that is read.
-pub in_block_there : (file : List ℕ) (w : Window) (place : ℕ) → IsSound w → IsOn file w → w.is_read ≡ true → w.start ≡ starts_at place → place ≤ length file → place - w.start ≤ w.len
-in_block_there file w place sound on read start inside =
-    let whole = ap length ((on.block read).bytes) in
-    omega (arith, length-bytes w sound, whole, length-take 32768 (drop w.start file), length-drop w.start file, start, inside)
+-- A window that was moved to a place is there, if the file has the place.
+pub is_there : (file : List ℕ) (w : Window) (place : ℕ) → IsSound w → IsMovedTo place w → HasBytes file w → place ≤ length file → offset_of w ≡ place
+is_there file w place sound moved bytes inside =
+    omega (arith, length-bytes w sound, ap length (bytes moved.read), length-take 32768 (drop w.start file), length-drop w.start file, moved.start, moved.at, inside)
+
+-- the file has a byte there where the block has one
+pub has_there : (file : List ℕ) (w : Window) (place : ℕ) → IsSound w → IsMovedTo place w → HasBytes file w → nat_lt place (w.start + length (bytes_of w)) ≡ nat_lt place (length file)
+has_there file w place sound moved bytes = by_cases (cases_lt place (length file))
+  where
+    whole : length (bytes_of w) ≡ min 32768 (length file - w.start)
+    whole = omega (arith, ap length (bytes moved.read), length-take 32768 (drop w.start file), length-drop w.start file)
+
+    by_cases : (place < length file) ⊎ (length file ≤ place) → nat_lt place (w.start + length (bytes_of w)) ≡ nat_lt place (length file)
+    by_cases (inl less) = lt-ltb place (w.start + length (bytes_of w)) (omega (arith, whole, moved.start, less)) ∙ sym (lt-ltb place (length file) less)
+    by_cases (inr past) = le-ltb place (w.start + length (bytes_of w)) (omega (arith, whole, moved.start, past)) ∙ sym (le-ltb place (length file) past)
+
+-- what is seen in the block is what the file has at the place
+pub seen_here : (number : Option ℕ) (file : List ℕ) (w : Window) (place : ℕ) → IsSound w → IsMovedTo place w → HasBytes file w → seen_in_block number (bytes_of w) w.at ≡ seen_at number file place
+seen_here number file w place sound moved bytes = by_cases (cases_lt w.len (place - w.start))
+  where
+    same : bytes_of w ≡ take 32768 (drop w.start file)
+    same = bytes moved.read
+
+    by_cases : (w.len < place - w.start) ⊎ (place - w.start ≤ w.len) → seen_in_block number (bytes_of w) w.at ≡ seen_at number file place
+    by_cases (inl past) =
+        seen_behind number (bytes_of w) w.at (omega (arith, length-bytes w sound, moved.at, past))
+        ∙ sym (seen_past number file place (omega (arith, length-bytes w sound, ap length same, length-take 32768 (drop w.start file), length-drop w.start file, moved.start, past)))
+    by_cases (inr within) =
+        let there : w.start + w.at ≡ place = omega (arith, moved.start, moved.at, within) in
+        sym (seen_in_bytes number file (bytes_of w) w.start w.at sound.aligned same (omega (arith, moved.start, moved.at, within))) ∙ ap (seen_at number file) there
+
+-- its block has the place where it is
+pub in_its_block : (w : Window) (place : ℕ) → IsSound w → IsMovedTo place w → w.start ≡ starts_at (offset_of w)
+in_its_block w place sound moved = omega (arith, sound.aligned, moved.start, moved.at)
+
+-- the rest of the block, as bytes of the file
+pub rest_is : (file : List ℕ) (w : Window) (place : ℕ) → IsSound w → IsOn file w → w.is_read ≡ true → w.start ≡ starts_at place → offset_of w ≡ place → slice_range (bytes_of w) w.at w.len ≡ take (room place) (drop place file)
+rest_is file w place sound on read start there =
+    let less : w.at < 32768 = omega (arith, start, there) in
+    let len : length (drop w.at (bytes_of w)) ≡ w.len - w.at = omega (arith, length-drop w.at (bytes_of w), length-bytes w sound) in
+    take_all (w.len - w.at) (drop w.at (bytes_of w)) (omega (arith, len))
+    ∙ (ap (drop w.at) (on.block read).bytes
+    ∙ (there_in_block file w.start w.at (omega (arith, less))
+    ∙ (ap (λ (n : ℕ). take n (drop (w.start + w.at) file)) (sym (room_in_block w.start w.at sound.aligned less))
+    ∙ ap (λ (n : ℕ). take (room n) (drop n file)) there)))

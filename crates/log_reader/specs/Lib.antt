@@ -1,4 +1,5 @@
 pub mod Blocks
+pub mod Damaged
 pub mod Windows
 pub mod Records
 pub mod Steps

@@ -1,5 +1,6 @@
 -- One more fragment of a record. Where a definition takes `number` first, that is the log's number, if it has one.
 use Rattle.std.specs.Prelude.{◌≡◌, ℕ, ◌<◌, List, [], ◌∷◌, Option, Some, None}
+use Rattle.model_base.specs.declared.log.EndReason.{EndReason}
 use Rattle.model_base.specs.declared.log.EndReason.TheVariants as ends
 use Rattle.model_base.specs.Log.{Kind, full, first, middle, last, Fragment, kinds_of, record_of, next_place}
 use Rattle.model_base.specs.Reading.{HasFragments, end_of, AreBegun}
@@ -33,10 +34,17 @@ abbrev pub StepIs : Option ℕ → List ℕ → ℕ → List ℕ → ℕ → Ste
 StepIs number file place in_hand offset (step.More start) = HasReadPart number file place (Some start) in_hand offset
 StepIs number file place in_hand offset (step.Done answer) = Reads number file place in_hand answer
 
--- where the answer is a record, the reader moved on from the one offset to the other, and the record ends there
+-- damage and a fragment in a wrong place are at this offset
+abbrev pub IsThere : ℕ → ℕ → EndReason → Type 0
+IsThere offset at (ends.Broken d) = at ≡ offset
+IsThere offset at ends.BadOrder = at ≡ offset
+IsThere offset at other = Unit {0}
+
+-- where the answer is a record, the reader moved on from the one offset to the other, and the record ends there; where
+-- it is something that doesn't read, the reader is there
 abbrev pub EndsAt : ℕ → ℕ → Next → Type 0
 EndsAt old new (next.Record start end) = (old < new) × (end ≡ new)
-EndsAt old new (next.End at why) = Unit {0}
+EndsAt old new (next.End at why) = IsThere new at why
 EndsAt old new (next.Fault count) = Unit {0}
 EndsAt old new next.NoMemory = Unit {0}
 

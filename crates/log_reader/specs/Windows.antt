@@ -1,8 +1,9 @@
 -- The block in which a reader is.
-use Rattle.std.specs.Prelude.{◌≡◌, ℕ, ◌+◌, ◌%◌, ◌^◌, ◌<◌, ◌≤◌, List, length, take, vec_len, true, false, Option}
+use Rattle.std.specs.Prelude.{◌≡◌, ℕ, ◌+◌, ◌-◌, ◌%◌, ◌^◌, ◌<◌, ◌≤◌, min, List, length, take, drop, vec_len, true, false, Option}
 use Rattle.log_block.specs.declared.fragments.Seen.{Seen}
 use Rattle.log_reader.specs.declared.window.Window.{Window}
 use Rattle.log_reader.specs.Blocks.{IsBlock, SeenNext, PartIn}
+use Rattle.log_reader.specs.Opens.{starts_at}
 
 -- the reader's offset in the log
 abbrev pub offset_of : Window → ℕ
@@ -25,6 +26,16 @@ pub record IsSound (w : Window) : Type 0 where
 pub record IsOn (file : List ℕ) (w : Window) : Type 0 where
   pub in_file : w.start ≤ length file
   pub block : w.is_read ≡ true → IsBlock file w.start (bytes_of w)
+
+-- the block's bytes are the file's, once they are read; the file may also end before the block
+abbrev pub HasBytes : List ℕ → Window → Type 0
+HasBytes file w = w.is_read ≡ true → bytes_of w ≡ take 32768 (drop w.start file)
+
+-- the reader is at this offset, or where the block ends before it, and has read the block that has the offset
+pub record IsMovedTo (place : ℕ) (w : Window) : Type 0 where
+  pub read : w.is_read ≡ true
+  pub start : w.start ≡ starts_at place
+  pub at : w.at ≡ min (place - w.start) w.len
 
 -- what a reader sees next from an offset, in a log with this number, if it has one: it is at the reader's place in the
 -- block

@@ -5,7 +5,8 @@
 //! and a fragment that another log left in the file ends the reading too.
 //!
 //! It holds one block of the log at a time, and the record in hand. It begins at the log's start, or at the end of a
-//! record that was read before: so who follows a log that grows doesn't read it anew.
+//! record that was read before: so who follows a log that grows doesn't read it anew. It may go to another place of the
+//! log, also after it has stopped, and keeps its block where that has the place.
 #![tactic(auto)]
 
 mod errors;

@@ -1,19 +1,22 @@
 //! The records of a log, one after another.
 
-ghost use Rattle.std.specs.Prelude.{◌≡◌, ◌+◌, ◌^◌, ◌<◌, ◌≤◌, ℕ, List, [], ◌++◌, length, slice_range, None, IfOk, IfErr, IfSome, OnOk};
-ghost use Rattle.model_base.specs.Log.{Kind, kind_code};
+ghost use Rattle.std.specs.Prelude.{◌≡◌, ◌+◌, ◌^◌, ◌<◌, ◌≤◌, ℕ, List, [], ◌++◌, length, take, drop, slice_range, nat_lt, None, Some, IfOk, IfErr, IfSome, OnOk};
+ghost use Rattle.base_devices.specs.Faults.{Rose};
+ghost use Rattle.model_base.specs.Log.{Kind, kind_code, room};
+ghost use Rattle.log_reader.specs.declared.reader.Next.TheVariants.{Fault};
 ghost use Rattle.log_reader.specs.Blocks.{IsNext};
-ghost use Rattle.log_reader.specs.Opens.{IsOpenError};
-ghost use Rattle.log_reader.specs.Windows.{IsSound, IsOn, offset_of, bytes_of};
+ghost use Rattle.log_reader.specs.Damaged.{is_damaged};
+ghost use Rattle.log_reader.specs.Opens.{IsOpenError, starts_at};
+ghost use Rattle.log_reader.specs.Windows.{IsSound, IsOn, IsMovedTo, HasBytes, offset_of, bytes_of};
 ghost use Rattle.log_reader.specs.Records.{Reads, HasFault, stopped_by};
 ghost use Rattle.log_reader.specs.Steps as steps;
 ghost use Rattle.log_reader.specs.Steps.{HasReadPart, StepIs, EndsAt, Moves, HasFaultStep, end_of_reading};
-ghost use Rattle.log_reader.specs.Reader.{Follows, PlaceAfter, GoesForward};
+ghost use Rattle.log_reader.specs.Reader.{Follows, HasBlock, PlaceAfter, GoesForward, IsSmall};
 
 use crate::errors::OpenError;
 use crate::window::Window;
 use base_devices::ReadAt;
-use log_block::{FIRST, FULL, LAST, MIDDLE, Seen, plain_type};
+use log_block::{BLOCK_LEN, FIRST, FULL, LAST, MIDDLE, Seen, plain_type};
 use model_base::{EndReason, NoMemory};
 use std::alloc::Global;
 use std::marker::Model;
@@ -106,15 +109,104 @@ impl LogReader {
         ensures error { IfErr result (IsOpenError (R.failures disk.old) (R.failures disk.new)) }
         ensures disk { R.only_reads disk.old disk.new }
     {
-        let window = Window::open_at(alloc, place, disk)?;
-        let place = window.offset();
-        Ok(LogReader {
-            number,
-            window,
-            in_hand: Vec::new(alloc),
-            place,
-            stopped: None,
-        })
+        let mut reader = LogReader::open(alloc, number)?;
+        match reader.go_to(place, disk) {
+            Ok(_) => Ok(reader),
+            Err(count) => Err(OpenError::Fault { count }),
+        }
+    }
+
+    /// Goes to an offset of the same log, also after the reader has stopped, and answers whether the file has a byte
+    /// there. The block that has the offset is read, unless the reader has it. The record in hand stays. For a fault of
+    /// the disk it answers the disk's count of faults, and the reader has stopped.
+    pub fn go_to<R: ReadAt>(&mut self, place: u64, disk: &mut R) -> Result<bool, u64>
+        requires small { place < 2 ^ 63 }
+        ensures number { self.new.number ≡ self.old.number }
+        ensures going { OnOk result (self.new.stopped ≡ None) }
+        ensures stopped { IfErr result (λ count. self.new.stopped ≡ Some (Fault count)) }
+        ensures in_hand { self.new.in_hand ≡ self.old.in_hand }
+        ensures has { IfSome (R.held disk.old) (λ file. Follows file self.old
+            → IfOk result (λ has. has ≡ nat_lt place (length file))) }
+        ensures there { IfSome (R.held disk.old) (λ file. Follows file self.old → place ≤ length file
+            → OnOk result (self.new.place ≡ place)) }
+        // If the file ends before the place, the reader's place may be before it too.
+        ensures within { OnOk result (self.new.place ≤ place) }
+        ensures follows { IfSome (R.held disk.old) (λ file. Follows file self.old → starts_at place ≤ length file
+            → Follows file self.new) }
+        ensures block { OnOk result (HasBlock self.new) }
+        ensures worked { OnOk result (R.failures disk.new ≡ R.failures disk.old) }
+        ensures fault { IfErr result (λ count. Rose (R.failures disk.old) count × (count ≡ R.failures disk.new)) }
+        ensures disk { R.only_reads disk.old disk.new }
+    {
+        self.move_to(place, disk)?;
+        Ok(place < self.window.end())
+    }
+
+    /// Goes to an offset of the same log, as `go_to` does, and answers whether there is damage.
+    pub fn is_damaged_at<R: ReadAt>(&mut self, place: u64, disk: &mut R) -> Result<bool, u64>
+        requires small { place < 2 ^ 63 }
+        ensures is { IfSome (R.held disk.old) (λ file. Follows file self.old
+            → IfOk result (λ is. is ≡ is_damaged self.old.number file place)) }
+        ensures number { self.new.number ≡ self.old.number }
+        ensures going { OnOk result (self.new.stopped ≡ None) }
+        ensures stopped { IfErr result (λ count. self.new.stopped ≡ Some (Fault count)) }
+        ensures in_hand { self.new.in_hand ≡ self.old.in_hand }
+        ensures follows { IfSome (R.held disk.old) (λ file. Follows file self.old → starts_at place ≤ length file
+            → Follows file self.new) }
+        ensures worked { OnOk result (R.failures disk.new ≡ R.failures disk.old) }
+        ensures fault { IfErr result (λ count. Rose (R.failures disk.old) count × (count ≡ R.failures disk.new)) }
+        ensures disk { R.only_reads disk.old disk.new }
+    {
+        self.move_to(place, disk)?;
+        Ok(self.window.is_damaged(self.number))
+    }
+
+    /// The place up to which it has read records, or the one to which it went.
+    pub fn place(&self) -> u64
+        ensures { result ≡ self.now.place }
+    {
+        self.place
+    }
+
+    /// The bytes of the log from the reader's place to the end of its block, as far as the file has them, once the
+    /// reader went there by `go_to`.
+    pub fn rest(&self) -> &[u8]
+        ensures in_block { length result.now ≤ BLOCK_LEN }
+        ensures small { self.now.stopped ≡ None → self.now.place + length result.now < 2 ^ 63 }
+        ensures bytes { (file : List ℕ) → Follows file self.now → HasBlock self.now → self.now.stopped ≡ None
+            → result.now ≡ take (room self.now.place) (drop self.now.place file) }
+    {
+        self.window.part(self.window.at, self.window.len)
+    }
+
+    /// Goes to an offset of the same log, also after the reader has stopped. For a fault of the disk it answers the
+    /// disk's count of faults, and the reader has stopped.
+    fn move_to<R: ReadAt>(&mut self, place: u64, disk: &mut R) -> Result<(), u64>
+        requires small { place < 2 ^ 63 }
+        ensures number { self.new.number ≡ self.old.number }
+        ensures going { OnOk result (self.new.stopped ≡ None) }
+        ensures stopped { IfErr result (λ count. self.new.stopped ≡ Some (Fault count)) }
+        ensures in_hand { self.new.in_hand ≡ self.old.in_hand }
+        ensures moved { OnOk result (IsMovedTo place self.new.window) }
+        ensures place { OnOk result (self.new.place ≡ offset_of self.new.window) }
+        ensures bytes { IfSome (R.held disk.old) (λ file. Follows file self.old → HasBytes file self.new.window) }
+        ensures follows { IfSome (R.held disk.old) (λ file. Follows file self.old → starts_at place ≤ length file
+            → Follows file self.new) }
+        ensures worked { OnOk result (R.failures disk.new ≡ R.failures disk.old) }
+        ensures fault { IfErr result (λ count. Rose (R.failures disk.old) count × (count ≡ R.failures disk.new)) }
+        ensures disk { R.only_reads disk.old disk.new }
+    {
+        match self.window.move_to(place, disk) {
+            Ok(()) => {
+                self.place = self.window.offset();
+                self.stopped = None;
+                Ok(())
+            }
+            Err(count) => {
+                self.stopped = Some(Next::Fault { count });
+                Err(count)
+            }
+        }
     }
 
     /// Reads the next record of the log that the disk holds, which should be the same log at each call. After any
@@ -129,6 +221,8 @@ impl LogReader {
         ensures place { self.old.stopped ≡ None → PlaceAfter self.old self.new result }
         // A loop over the records ends: each of them ends after the place before it.
         ensures forward { self.old.stopped ≡ None → GoesForward self.old.place result }
+        // Also where the disk tells nothing.
+        ensures small { IsSmall result }
         // So the clause `reads` is good for the next call as well.
         ensures follows { IfSome (R.held disk.old) (λ file. Follows file self.old → Follows file self.new) }
         // A fault is answered only where the count rose in this call, with the count that the disk then has, and any

@@ -1,15 +1,16 @@
 //! The block of a log in which a reader is.
 
-ghost use Rattle.std.specs.Prelude.{◌≡◌, ◌+◌, ◌^◌, ◌<◌, ◌≤◌, ℕ, List, length, slice_range, IfOk, IfErr, IfSome, OnOk, true, false};
+ghost use Rattle.std.specs.Prelude.{◌≡◌, ◌+◌, ◌%◌, ◌^◌, ◌<◌, ◌≤◌, ℕ, List, length, slice_range, IfOk, IfErr, IfSome, OnOk, true, false};
 ghost use Rattle.base_devices.specs.Faults.{Rose};
-ghost use Rattle.log_reader.specs.Opens.{IsOpenError, starts_at};
-ghost use Rattle.log_reader.specs.Windows.{IsSound, IsOn, offset_of, SeesNext, PartLies, bytes_of};
+ghost use Rattle.model_base.specs.Reading.{seen_in_block};
+ghost use Rattle.log_reader.specs.Damaged.{is_damage};
+ghost use Rattle.log_reader.specs.Opens.{starts_at};
+ghost use Rattle.log_reader.specs.Windows.{IsSound, IsOn, IsMovedTo, HasBytes, offset_of, SeesNext, PartLies, bytes_of};
 
-use crate::errors::OpenError;
 use crate::read_block::read_block;
 use crate::see::see;
 use base_devices::ReadAt;
-use log_block::{BLOCK_LEN, Seen};
+use log_block::{BLOCK_LEN, Seen, read_fragment};
 use model_base::NoMemory;
 use std::alloc::Global;
 
@@ -45,38 +46,42 @@ impl Window {
         })
     }
 
-    /// The block that has this offset of a file, not read yet. The reader's place is the block's start.
-    fn of_place(alloc: Global, place: u64) -> Result<Window, NoMemory>
+    /// Goes to this offset of a file. The block that has it is read, unless it is here. If the file ends before the
+    /// offset, the place is before it too. For a fault of the disk it answers the disk's count of faults.
+    pub fn move_to<R: ReadAt>(&mut self, place: u64, disk: &mut R) -> Result<(), u64>
+        requires sound { IsSound self.old }
         requires small { place < 2 ^ 63 }
-        ensures sound { IfOk result IsSound }
-        ensures start { IfOk result (λ w. w.start ≡ starts_at place) }
-        ensures unread { IfOk result (λ w. w.is_read ≡ false) }
-    {
-        let mut window = Window::new(alloc)?;
-        window.start = place - place % BLOCK_LEN as u64;
-        Ok(window)
-    }
-
-    /// The block that has this offset of a file, and the reader's place there. If the file ends before the offset, the
-    /// place is before it too.
-    pub fn open_at<R: ReadAt>(alloc: Global, place: u64, disk: &mut R) -> Result<Window, OpenError>
-        requires small { place < 2 ^ 63 }
-        ensures sound { IfOk result IsSound }
-        ensures there { IfSome (R.held disk.old) (λ file. place ≤ length file
-            → IfOk result (λ w. (offset_of w ≡ place) × IsOn file w)) }
-        ensures within { IfOk result (λ w. offset_of w ≤ place) }
+        ensures sound { IsSound self.new }
+        ensures moved { OnOk result (IsMovedTo place self.new) }
+        ensures bytes { IfSome (R.held disk.old) (λ file. IsOn file self.old → HasBytes file self.new) }
+        ensures on { IfSome (R.held disk.old) (λ file. IsOn file self.old → starts_at place ≤ length file
+            → IsOn file self.new) }
         ensures worked { OnOk result (R.failures disk.new ≡ R.failures disk.old) }
-        ensures error { IfErr result (IsOpenError (R.failures disk.old) (R.failures disk.new)) }
+        ensures fault { IfErr result (λ count. Rose (R.failures disk.old) count × (count ≡ R.failures disk.new)) }
         ensures disk { R.only_reads disk.old disk.new }
     {
-        let mut window = Window::of_place(alloc, place)?;
-        match window.fill(disk) {
-            Ok(()) => {
-                let at = ((place - window.start) as usize).min(window.len);
-                window.go_to(at);
-                Ok(window)
-            }
-            Err(count) => Err(OpenError::Fault { count }),
+        let start = place - place % BLOCK_LEN as u64;
+        self.enter(start);
+        self.fill(disk)?;
+        self.at = ((place - start) as usize).min(self.len);
+        Ok(())
+    }
+
+    /// Goes to the block that begins at this offset. It isn't read yet, unless it is here.
+    fn enter(&mut self, start: u64)
+        requires sound { IsSound self.old }
+        requires aligned { start % BLOCK_LEN ≡ 0 }
+        requires small { start < 2 ^ 63 }
+        ensures sound { IsSound self.new }
+        ensures start { self.new.start ≡ start }
+        ensures bytes { (file : List ℕ) → IsOn file self.old → HasBytes file self.new }
+        ensures on { (file : List ℕ) → IsOn file self.old → start ≤ length file → IsOn file self.new }
+    {
+        if start != self.start {
+            self.start = start;
+            self.at = 0;
+            self.len = 0;
+            self.is_read = false;
         }
     }
 
@@ -114,6 +119,7 @@ impl Window {
         requires { IsSound self.old }
         ensures sound { IsSound self.new }
         ensures read { OnOk result (self.new.is_read ≡ true) }
+        ensures bytes { IfSome (R.held disk.old) (λ file. HasBytes file self.old → HasBytes file self.new) }
         ensures on { IfSome (R.held disk.old) (λ file. IsOn file self.old → IsOn file self.new) }
         ensures start { self.new.start ≡ self.old.start }
         ensures at { self.new.at ≡ self.old.at }
@@ -168,6 +174,17 @@ impl Window {
         ensures { result.now ≡ slice_range (bytes_of self.now) start end }
     {
         &self.room[start..end]
+    }
+
+    /// Whether there is damage at the reader's place of the block, in a log with this number, if it has one.
+    pub fn is_damaged(&self, number: Option<u32>) -> bool
+        requires { IsSound self.now }
+        ensures { result ≡ is_damage (seen_in_block number (bytes_of self.now) self.now.at) }
+    {
+        matches!(
+            read_fragment(number, &self.room[..self.len], self.at),
+            Seen::Damage(_)
+        )
     }
 
     /// Goes to this place of the block.
