@@ -1,6 +1,6 @@
--- Which records of a damaged log are kept. The nearest to it in public is `ConvertLogToTable` of RocksDB's db/repair.cc,
--- which applies the batches of a log to a new table one by one. There a batch whose front alone is known is applied in
--- part; here a record is kept as it is, or left out.
+-- Which records of a damaged log are kept. The nearest in public is `ConvertLogToTable` of RocksDB's db/repair.cc, which
+-- applies the batches of a log to a new table, one by one. There a batch of which only the front is known is applied in
+-- part. Here a record is kept as it is, or left out.
 use Rattle.std.specs.Prelude.{◌≡◌, ℕ, List, [], ◌∷◌, Option, Some, None, if◌then◌else◌}
 use Rattle.model_base.specs.declared.batch.BatchError.{BatchError}
 use Rattle.batch_operations.specs.Operations.{Operation}

@@ -24,7 +24,8 @@ pub record Source : Type 0 where
   pub file : List ℕ
 
 -- By a scan, which reads on after damage, these items are found up to a place, and of them these records are kept.
-pub record AreFound (range : Range) (source : Source) (place : ℕ) (items : List Item) (records : List (List ℕ)) : Type 0 where
+pub record AreFound (range : Range) (source : Source) (place : ℕ) (items : List Item) (records : List (List ℕ))
+    : Type 0 where
   pub finds : Finds source.number true source.file 0 items place
   pub are : AreKept range items records
 

@@ -1,4 +1,4 @@
--- What is kept of a log of three records, of which the second one is damaged. The log is that of the rows of `list_log`.
+-- What is kept of a log of three records, of which the second one is damaged. It is that of the rows of `list_log`.
 use Rattle.std.specs.Prelude.{ℕ, ◌-◌, ◌^◌, List, [], ◌∷◌}
 use Rattle.list_log.specs.Rows.{first_record, third_record}
 use Rattle.log_salvage.specs.declared.keeping.Range.{Range}
