@@ -73,7 +73,7 @@ text_more log now records bytes is =
     text_append log.number log.len records (bytes ∷ [])
     ∙ (ap (λ (l : List ℕ). so_far ++ l) (append-nil there) ∙ ap (λ (l : NewLogState). so_far ++ text_of l bytes) (sym is))
 
-abbrev log_with : Option ℕ → ℕ → NewLogState
+abbrev pub log_with : Option ℕ → ℕ → NewLogState
 log_with number len = record { number = number; len = len }
 
 longer_more : (log now new : NewLogState) (text more : List ℕ) → now ≡ longer log text → new ≡ longer now more → new ≡ longer log (text ++ more)
@@ -237,9 +237,11 @@ adds_at_end range source old new first mid after step.SinkFailed result of at is
       so_far.0 ++ items_with old.lost old.place found.1 found.2 bytes,
       adds.records ++ bytes ∷ [],
       found_next range source old new found.0 found.1 found.2 so_far.0 adds.records None of at found.3 written.0 adds.found,
-      length text + written.1.0,
-      subst (λ (t : List ℕ). Appends first.taken after.taken (take (length text + written.1.0) t)) (sym (text_more first.log mid.log adds.records bytes adds.log_is))
-          (part first.taken mid.taken after.taken text (text_of mid.log bytes) written.1.0 adds.taken written.1.2),
+      (
+        length text + written.1.0,
+        subst (λ (t : List ℕ). Appends first.taken after.taken (take (length text + written.1.0) t)) (sym (text_more first.log mid.log adds.records bytes adds.log_is))
+            (part first.taken mid.taken after.taken text (text_of mid.log bytes) written.1.0 adds.taken written.1.2),
+      ),
     )
 
 -- ---- what holds where it goes on
@@ -309,7 +311,7 @@ none_told (Some file) range number place first start none = adds_none range (sou
 
 pub no_room_told : (told : Option (List ℕ)) (range : Range) (number : Option ℕ) (first : Written) → Appends first.taken first.taken [] → IfSome told (λ file. AnswersSalvage range (source_of number file) first first salvaged.NoMemory)
 no_room_told None range number first none = tt
-no_room_told (Some file) range number first none = (0, adds_none range (source_of number file) 0 first refl none)
+no_room_told (Some file) range number first none = let adds = adds_none range (source_of number file) 0 first refl none in (0, adds.0, adds.1)
 
 pub no_bytes : (taken : Option (List ℕ)) → Appends taken taken []
 no_bytes None = tt

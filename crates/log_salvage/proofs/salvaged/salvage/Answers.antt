@@ -6,6 +6,10 @@ use Rattle.log_salvage.specs.Salvaging.{ended}
 use Rattle.log_salvage.proofs.Whole.{at_told, end_told, goes, if_all, no_bytes, no_room_told, none_told, on_told, uncaused, written}
 use Rattle.log_salvage.proofs.salvaged.salvage.Goals as goal
 
+pub returns-in_default-clause-salvaged : goal.returns-in_default-clause-salvaged
+returns-in_default-clause-salvaged g c =
+    let taken = g.K.Sink.taken c.args.sink.now in no_room_told (g.R.ReadAt.held c.args.disk.now) c.args.range c.args.number (written c.args.new_log.now c.args.counts.now taken) (no_bytes taken)
+
 pub loop-salvaged-init : goal.loop-salvaged-init
 loop-salvaged-init g c =
     let told = g.R.ReadAt.held c.args.disk.now in
@@ -32,7 +36,7 @@ loop-salvaged-preserved g c =
     let new = c.next-step.new.self in
     let next = c.next-step.ensures in
     let s = c.next-step.result in
-    let on : ended s ≡ None = sym c.ended.ensures ∙ c.in_default.is in
+    let on : ended s ≡ None = sym c.ended.ensures ∙ c.in_default-ended.is in
     let same : now ≡ told = g.met.R.ReadAt.reads_keep _ _ old.disk in
     let causes = uncaused s (g.R.ReadAt.failures c.loop-salvaged.disk) (g.R.ReadAt.failures c.next-step.new.disk) (g.K.Sink.faults c.loop-salvaged.sink) (g.K.Sink.faults c.next-step.new.sink) on (next.causes old.going) in
     let first = written c.args.new_log.now c.args.counts.now (g.K.Sink.taken c.args.sink.now) in
