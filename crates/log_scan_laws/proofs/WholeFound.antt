@@ -397,8 +397,9 @@ not_compressed number file f seen = by_test (is_compressed file) refl
 begins_plain : (number : Option ℕ) (file : List ℕ) (from : ℕ) (fs : List Fragment) → HasFragments number file from fs → 0 < length fs → PassesStart file from
 begins_plain number file from [] stand some = absurd (omega (arith, some))
 begins_plain number file from (f ∷ fs) stand some = λ start.
-    let at_start : HasFragments number file 0 (f ∷ fs) = subst (λ (n : ℕ). HasFragments number file n (f ∷ fs)) start stand in
-    not_compressed number file f (seen_there number file 0 0 f (sym (next_first number file 0 f fs at_start) ∙ refl))
+    let first : HasFragments number file 0 (f ∷ fs) = subst (λ (n : ℕ). HasFragments number file n (f ∷ fs)) start stand in
+    let here : next_place number 0 ≡ 0 = at_start number 0 in
+    not_compressed number file f (seen_there number file 0 0 f (ap (λ (n : ℕ). record { at = n; seen = fragment f }) (sym here) ∙ sym (next_first number file 0 f fs first)))
 
 -- A scan from the place itself is on the way.
 pub found_from_there : (number : Option ℕ) (file : List ℕ) (from : ℕ) (scan : Scan) (before fragments : List Fragment) → IsScanFrom number true file from scan
