@@ -9,10 +9,11 @@
 
 mod rows;
 
-ghost use Rattle.std.specs.Prelude.{◌≡◌, ◌*◌, ◌++◌, ℕ, List, None, Option};
+ghost use Rattle.std.specs.Prelude.{◌≡◌, ◌*◌, ◌++◌, ℕ, false, List, None, Option};
 ghost use Rattle.std.specs.List.{AllByRecursion};
 ghost use Rattle.model_base.specs.Log.{Fragment, AreOneRecord, SpellsWhole, kinds_of, record_of};
 ghost use Rattle.model_base.specs.Reading.{HasFragments};
+ghost use Rattle.log_scan.specs.Resuming.{is_compressed};
 ghost use Rattle.log_salvage.specs.Keeping.{HasVerdict};
 ghost use Rattle.log_salvage.specs.declared.keeping.Range.{Range};
 ghost use Rattle.log_salvage_laws.specs.Kept.{HasRecord, Keeps};
@@ -26,10 +27,11 @@ pub fn what_is_kept_is_one_list()
 {}
 
 /// Whatever is damaged, a whole record that is in the order of its block is kept, if it is a whole batch in the range:
-/// from the block's start on the file has fragments that read, and the last of them are the record's.
+/// from the block's start on the file has fragments that read, and the last of them are the record's. Of a compressed
+/// log nothing is kept.
 pub fn whole_records_are_kept()
     ensures { (range : Range) (number : Option ℕ) (file : List ℕ) (records : List (List ℕ)) (block : ℕ)
-        (before fragments : List Fragment) → Keeps range number file records
+        (before fragments : List Fragment) → Keeps range number file records → is_compressed file ≡ false
         → HasFragments number file (32768 * block) (before ++ fragments) → AreOneRecord (kinds_of fragments)
         → HasVerdict range (record_of fragments) None → HasRecord (record_of fragments) records }
 {}

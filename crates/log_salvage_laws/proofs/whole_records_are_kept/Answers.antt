@@ -3,5 +3,5 @@ use Rattle.log_salvage_laws.proofs.OneList.{kept_there}
 use Rattle.log_salvage_laws.proofs.whole_records_are_kept.Goals as goal
 
 pub returns : goal.returns
-returns c = λ range number file records block before fragments keeps stand one verdict.
-    let found = whole_found number file keeps.scan block before fragments keeps.is stand one in kept_there range keeps.scan.items found.0 found.1 records _ _ _ found.2 keeps.are verdict
+returns c = λ range number file records block before fragments keeps plain stand one verdict.
+    let found = whole_found number file keeps.scan block before fragments keeps.is plain stand one in kept_there range keeps.scan.items found.0 found.1 records _ _ _ found.2 keeps.are verdict
