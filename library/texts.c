@@ -1,6 +1,15 @@
-/* The texts of codes and reasons. Nothing is proved of them; `tests/library` compares them with the words that
-   `recover` prints. */
+/* The texts of codes and reasons, and whether the library was proved. Nothing is proved of these; `tests/library`
+   compares the texts with the words that `recover` prints. */
 #include "wolzenn.h"
+
+/* `library/build` sets it to 1 where it links what was proved. */
+#ifndef WZ_PROVED
+#define WZ_PROVED 0
+#endif
+
+bool wz_is_proved(void) {
+    return WZ_PROVED;
+}
 
 #define COUNT_OF(texts) (sizeof(texts) / sizeof((texts)[0]))
 

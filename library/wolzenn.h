@@ -18,18 +18,20 @@
    Bytes. A pointer with a length means that many bytes, which are read (const) or written, and fewer than 2^63. Where
    the length is 0 it may be null. No other pointer may be null, and each is aligned as its type asks: a call with one
    that isn't may end the process. What a pointer that isn't const points to, a handle too, overlaps nothing else of the
-   same call. The bytes stay the caller's: no function keeps a pointer to them. No function locks, waits, starts a
+   same call. Nobody changes any of these bytes during a call, neither another thread nor, where a file is mapped,
+   another process. The bytes stay the caller's: no function keeps a pointer to them. No function locks, waits, starts a
    thread, calls back, or ends the process otherwise. There is no global state. errno says nothing, and may change,
    since malloc may set it.
 
    Memory comes from malloc and realloc, and is freed by free. Where these find none the answer is WZ_NO_MEMORY, and no
    memory is leaked.
 
-   What is promised below is proved, of the functions as they are called from Rattle. Four things are only tested: that
+   What is promised below is proved, of the functions as they are called from Rattle. Five things are only tested: that
    WZ_NO_MEMORY comes only where there was no memory; that no memory is leaked; that a null pointer with the length 0
-   means no bytes; and the texts of codes and reasons. How much memory is taken, and what is copied, is neither. That
-   this header's numbers, types and arguments are those of the proved functions is compared by a test. That pointers and
-   lengths are as said above is up to the caller. docs/LIBRARY.md has more, and first programs.
+   means no bytes; the texts of codes and reasons; and what wz_is_proved answers. How much memory is taken, and what is
+   copied, is neither. That this header's numbers, types and arguments are those of the proved functions is compared by a
+   test. That pointers and lengths are as said above is up to the caller. The manual page wolzenn(3) lists all functions;
+   docs/LIBRARY.md of the repository has first programs.
 
    A program that was written when this header had one type of handle defines WZ_OLD_NAMES before it includes it: then
    all handles are a wz_handle, which wz_close closes, codes and reasons are a uint32_t, and reasons, modes and
@@ -65,9 +67,13 @@ extern "C" {
 #endif
 
 /* The version of this header, and that of the library that the program runs with. They are the same number unless the
-   header belongs to another version of the library. */
-#define WZ_VERSION 7u
+   header belongs to another version of the library. Where that may be, a program compares them before any other call:
+   of another version a struct may have another layout. */
+#define WZ_VERSION 8u
 uint32_t wz_version(void);
+
+/* Whether the library was built of sources that had been proved on the machine that built it. */
+bool wz_is_proved(void);
 
 /* What a function answers. */
 WZ_ENUM(wz_code) {
@@ -291,7 +297,7 @@ static inline void wz_batch_close(wz_batch *batch) { wz_close(&batch->handle); }
 /* What a code means, in words: "no memory". */
 const char *wz_code_text(wz_code code);
 
-/* A reason as docs/RECOVERY.md names it, in one word without its numbers: "badlength". */
+/* A reason in one word, without its numbers: "badlength". docs/RECOVERY.md of the repository says what it means. */
 const char *wz_why_text(wz_why why);
 
 /* ---- checksums ---- */

@@ -27,9 +27,10 @@
 //                  `none`    from it on each write takes no byte
 //                  `before`, `within`, `after`  SIGKILL ends the program before it, after half of its bytes where
 //                            it is a write, or after it
+//                  `stop`    SIGSTOP stops the program before it, until another program lets it go on
 //
 // With `space` a start of a thread and an allocation fail as with `io`, and so does each later one. `signal` and all
-// that is said of writes hold for files and streams alone, and what ends the program holds for the log alone.
+// that is said of writes hold for files and streams alone, and what ends or stops the program for the log alone.
 //
 // A call that closes always works, and isn't counted. The library makes its calls of the system by `syscall`, and
 // needs no other library than the C library.
@@ -132,6 +133,7 @@ static int fails_of(int kind, const char *name, long *nth) {
     int error = is("io") && *nth == 0 ? EIO : is("space") ? ENOSPC : is("signal") && *nth < 3 ? EINTR : 0;
     if (*nth == 0 && (error != 0 || is("before"))) note("fails %s\n", name);
     if (*nth == 0 && is("before")) end_here();
+    if (*nth == 0 && is("stop")) syscall(SYS_kill, getpid(), SIGSTOP);
     if (error != 0) errno = error;
     return error != 0;
 }

@@ -7,9 +7,11 @@ makes calls fail too, including those that the C library makes by itself; but it
 
 import os
 import shutil
+import signal
 import subprocess
+import time
 
-from outcomes import BUILT, LIMIT, wanted
+from outcomes import BUILT, LIMIT, Wrong, wanted
 
 SOURCE = os.path.join(os.path.dirname(os.path.realpath(__file__)), "calls.c")
 
@@ -65,6 +67,44 @@ class Program:
         line, environment = self.line(options), self.environment(fail)
         done = subprocess.run(line, input=text, capture_output=True, text=True, env=environment, timeout=LIMIT, **more)
         return done.returncode, done.stdout
+
+    def stopped_before(self, nth, words, text):
+        """A process of the program, with this text as its input, that is stopped before this call on the logs or has
+        ended; and whether it is stopped.
+        """
+        with open(self.image, "w+") as file:
+            file.write(text)
+            file.seek(0)
+            line, environment = [self.path, self.log, *words], self.environment(f"log {nth} stop")
+            process = subprocess.Popen(line, stdin=file, stdout=subprocess.PIPE, text=True, env=environment)
+        end, how = time.monotonic() + LIMIT, os.WEXITED | os.WSTOPPED | os.WNOWAIT | os.WNOHANG
+        while time.monotonic() < end:
+            found = os.waitid(os.P_PID, process.pid, how)
+            if found is not None:
+                return process, found.si_code == os.CLD_STOPPED
+            time.sleep(0.0002)
+        process.kill()
+        process.wait()
+        raise Wrong(f"the program stopped before call {nth}, or ended")
+
+    def printed_by(self, process):
+        """What a process prints that is stopped and goes on, or has ended."""
+        process.send_signal(signal.SIGCONT)
+        try:
+            printed, _ = process.communicate(timeout=LIMIT)
+        finally:
+            process.kill()
+            process.wait()
+        wanted(process.returncode == 0, f"status 0, not {process.returncode}: {printed[:200]}")
+        return printed
+
+    def there(self, count):
+        """What the first logs have, this many."""
+        contents = []
+        for log in range(1, count + 1):
+            with open(path_of(self.log, log), "rb") as file:
+                contents.append(file.read())
+        return contents
 
     def told_of_all(self):
         """The notes of the last run, each as a list of words. Those of a file have the log's number after the first

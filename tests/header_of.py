@@ -1,5 +1,5 @@
 """Whether `library/wolzenn.h` has the numbers, types and arguments of the proved functions in `crates/wolzenn_c`: the
-header is written by hand, and no contract speaks of it.
+header is written by hand, and no contract speaks of it. And which functions it has, and a page's table names.
 """
 
 import re
@@ -89,6 +89,18 @@ def of_header(text):
     for result, name, arguments in C_FUNCTION.findall(text):
         found[name] = c_arguments_of(arguments), NUMBERS.get(result, result)
     return found
+
+
+def functions_of(text):
+    """The names of the header's functions."""
+    text = re.sub(r"/\*.*?\*/", "", text, flags=re.S)
+    return re.findall(r"^(?:static inline |WZ_ANSWER |const )*\w+ \*?(wz_\w+)\(", text, re.M)
+
+
+def functions_named(page):
+    """The names in the first column of the page's table of functions."""
+    table = page.split("| Functions |", 1)[1].split("\n\n", 1)[0]
+    return [name for row in table.splitlines() for name in re.findall(r"`(wz_\w+)`", row.split("|")[1])]
 
 
 def differences(text):

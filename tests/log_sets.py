@@ -90,6 +90,16 @@ def records_of_logs(contents):
     return found
 
 
+def front_of_logs(contents, count):
+    """What the logs have of their first records, of this many in all."""
+    front, left = [], count
+    for records, content in zip(records_of_logs(contents), contents):
+        ends = [0, *(record.end for record in records)]
+        front.append(content[: ends[min(left, len(records))]])
+        left -= min(left, len(records))
+    return front
+
+
 def check_filled(contents, limit):
     """Checks that each log but the last one that was begun is whole and full, and none by more than its last record.
     Gives back the records of each log, and why the last one that was begun ends.

@@ -172,6 +172,11 @@ def own_number(log):
     return None if number is None or is_damaged(log, 0, number) else number
 
 
+def number_for(log, said):
+    """The number with which a log is read: the one that is said, and otherwise its own."""
+    return own_number(log) if said is None else said
+
+
 # ---- words and lines
 
 
@@ -263,7 +268,7 @@ def between(form, before, head):
 
 def listing_of(log, number=None, first=0, last=GREATEST, key=None, form=Form(False, False), goes_on=False):
     """What `list` prints of a log, and with `goes_on` what `scan` does."""
-    items, at, why = scan_of(log, own_number(log) if number is None else number, goes_on)
+    items, at, why = scan_of(log, number_for(log, number), goes_on)
     text, before = [form.front()] if goes_on else [], None
     for item in items:
         if len(item) == 4:
@@ -282,7 +287,7 @@ def listing_of(log, number=None, first=0, last=GREATEST, key=None, form=Form(Fal
 
 def summary_of_log(log, number=None, first=0, last=GREATEST, key=None, form=Form(False, False), goes_on=False):
     """What `list --summary` or `scan --summary` prints of a log."""
-    items, at, why = scan_of(log, own_number(log) if number is None else number, goes_on)
+    items, at, why = scan_of(log, number_for(log, number), goes_on)
     records, sequences, tallies, stretches, size = 0, [], {}, 0, 0
     for item in items:
         if len(item) == 4:
@@ -318,7 +323,7 @@ def summary_of_log(log, number=None, first=0, last=GREATEST, key=None, form=Form
 def state_of(log, number=None, form=Form(False, False)):
     """What `state` prints of a log, and where and why recovery ends."""
     groups, pairs = [], {}
-    last, at, why = recover_into(groups, pairs, log, number)
+    last, at, why = recover_into(groups, pairs, log, number_for(log, number))
     rows, groups = sorted(pairs.items()), [line.split() for line in groups]
     if form.json:
         text = [f'{{"groups":{len(groups)}}}\n']
@@ -339,7 +344,7 @@ def state_of(log, number=None, form=Form(False, False)):
 def key_of(word, text):
     """The key that a word spells."""
     if not text:
-        return bytes.fromhex(word)
+        return b"" if word == "-" else bytes.fromhex(word)
     key, place, given = bytearray(), 0, word.encode()
     while place < len(given):
         if given[place : place + 2] == b"\\\\":
@@ -372,7 +377,7 @@ def main():
     form = Form(asked["json"], asked["text"])
     if asked["command"] == "state":
         text, at, why = state_of(log, asked["number"], form)
-        if not accepts(asked["mode"] or "point", log, at, why.split()[0], asked["number"]):
+        if not accepts(asked["mode"] or "point", log, at, why.split()[0], number_for(log, asked["number"])):
             sys.exit(8)
     else:
         key = None if asked["key"] is None else key_of(asked["key"], asked["text"])

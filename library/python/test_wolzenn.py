@@ -1,12 +1,16 @@
 """Tests of `wolzenn.py`. `tests/library` runs them, over the library that `library/build` has made."""
 
+import contextlib
+import copy
 import gc
 import io
 import mmap
 import os
+import pickle
 import tempfile
 import threading
 import unittest
+import unittest.mock
 
 import wolzenn
 from wolzenn import Batch, BatchHead, End, Kind, LogWriter, Mode, Op, Operation, Pair, Place, Records, Scan, Tag
@@ -29,6 +33,20 @@ def log_of(*batches, number=0):
     for batch in batches:
         writer.append(batch)
     return writer.file.getvalue()
+
+
+@contextlib.contextmanager
+def failing(name, error):
+    """A function of the module, by its name, raises this error the first time that it is called in the context."""
+    own, left = getattr(wolzenn, name), [error]
+
+    def function(*words):
+        if left:
+            raise left.pop()
+        return own(*words)
+
+    with unittest.mock.patch.object(wolzenn, name, function):
+        yield
 
 
 ONE, TWO = built(1, (b"a", b"1"), (b"b", b"")), built(3, (b"a",), (b"c", b"3"))
@@ -112,6 +130,23 @@ class Reading(unittest.TestCase):
         list(records)
         log.append(0)
 
+    def test_a_record_that_had_no_room(self):
+        damaged = bytearray(LOG)
+        damaged[next(Records(LOG)).end - 1] ^= 1
+        # Where there is no room for a record that was found, and where Ctrl-C comes right after it was found.
+        for name, error in (("_room", MemoryError), ("_answer", KeyboardInterrupt)):
+            for opens in (Records, lambda log: Records(log, since=1), Scan, lambda _: Scan(damaged)):
+                says, reader = list(opens(LOG)), opens(LOG)
+                found = []
+                for _ in says:
+                    with failing(name, error), self.assertRaises(error):
+                        next(reader)
+                    found.append(next(reader))
+                self.assertEqual(found, says)
+                with failing("_answer", KeyboardInterrupt), self.assertRaises(KeyboardInterrupt):
+                    next(reader)
+                self.assertEqual((list(reader), reader.end), ([], End(len(LOG), Why.CLEAN)))
+
     def test_closed(self):
         records = Records(LOG)
         records.close()
@@ -131,6 +166,26 @@ class Recovering(unittest.TestCase):
             self.assertEqual(found.end, End(len(LOG), Why.CLEAN))
             with self.assertRaises(IndexError):
                 found[2]
+
+    def test_begun_anew(self):
+        found = wolzenn.recover(LOG)
+        found.__init__(log_of(ONE), 0, Mode.POINT)
+        self.assertEqual((found.groups, list(found)), (1, [Pair(0, b"a", b"1"), Pair(0, b"b", b"")]))
+        # What fails leaves nothing of what was there.
+        for log, mode, error in ((LOG[:-1], Mode.ABSOLUTE, wolzenn.Damage), (LOG, 3, ValueError), (1, 0, TypeError)):
+            found.__init__(LOG, 0, Mode.POINT)
+            with self.assertRaises(error):
+                found.__init__(log, 0, mode)
+            says = (0, 0, 0, None, 0, [])
+            self.assertEqual((found.groups, found.last, found.kept, found.end, len(found), list(found)), says)
+            for call in (lambda: found.find(b"b"), found.share, lambda: found.recover_more(LOG)):
+                with self.assertRaisesRegex(ValueError, "this is closed"):
+                    call()
+        batch = Batch(1)
+        with failing("_answer", MemoryError), self.assertRaises(MemoryError):
+            batch.__init__(2)
+        with self.assertRaisesRegex(ValueError, "this is closed"):
+            batch.put(b"a", b"1")
 
     def test_modes(self):
         cut = LOG[:-1]
@@ -230,6 +285,22 @@ class Batches(unittest.TestCase):
             self.assertEqual(raised.exception.end, end)
             self.assertEqual(wolzenn.batch_head(cut), BatchHead(0, 1))
 
+    def test_what_had_no_room(self):
+        # Where Ctrl-C comes right after something was found, or there is no memory for it.
+        recovery = wolzenn.recover(LOG)
+        for opens in (lambda: wolzenn.operations(ONE), lambda: wolzenn.all_operations(TWO), lambda: iter(recovery)):
+            says, iterator, found = list(opens()), opens(), []
+            for _ in says:
+                with failing("_answer", KeyboardInterrupt), self.assertRaises(KeyboardInterrupt):
+                    next(iterator)
+                found.append(next(iterator))
+            self.assertEqual((found, list(iterator)), (says, []))
+        data = bytearray(ONE)
+        for op in wolzenn.operations(data):
+            with self.assertRaises(BufferError):
+                data.append(0)
+        data.append(0)
+
     def test_a_group(self):
         with Batch(9) as group, Batch(1) as member:
             member.put(b"a", b"1")
@@ -295,6 +366,25 @@ class Writing(unittest.TestCase):
             file.seek(0)
             self.assertEqual(file.read(), LOG)
 
+    def test_a_file_that_takes_nothing(self):
+        class Odd(io.RawIOBase):
+            def __init__(self, taken):
+                self.calls, self.taken = 0, taken
+
+            def write(self, data):
+                self.calls += 1
+                if self.calls > 1:
+                    raise AssertionError("a second call")
+                return self.taken
+
+        for taken in (0, None, -1, len(LOG) + 1):
+            writer = LogWriter(Odd(taken))
+            with self.assertRaisesRegex(OSError, f"took {taken} of"):
+                writer.append(ONE)
+            with self.assertRaisesRegex(OSError, "an earlier record"):
+                writer.append(TWO)
+            self.assertEqual((writer.file.calls, writer.offset), (1, 0))
+
     def test_a_file_that_takes_a_part(self):
         class Slow(io.RawIOBase):
             taken = b""
@@ -350,6 +440,14 @@ class Others(unittest.TestCase):
             thread.join()
         self.assertEqual(found, [[b"3"] * 100] * 4)
 
+    def test_no_copies(self):
+        recovery = wolzenn.recover(LOG)
+        for held in (recovery, recovery.share(), Batch(), Records(LOG), Scan(LOG)):
+            for copied in (copy.copy, copy.deepcopy, pickle.dumps):
+                with self.assertRaisesRegex(TypeError, "can't be copied or pickled"):
+                    copied(held)
+        self.assertEqual(copy.deepcopy(list(Scan(LOG))), list(Scan(LOG)))
+
     def test_memory_is_given_back(self):
         def pages():
             with open("/proc/self/statm") as file:
@@ -363,6 +461,7 @@ class Others(unittest.TestCase):
             batch = Batch(1)
             batch.put(large, large)
             found = wolzenn.recover(log_of(batch))
+            found.__init__(log_of(batch), 0, Mode.POINT)
             next(Records(log_of(batch)))
             del batch, found
             gc.collect()

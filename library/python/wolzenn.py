@@ -22,7 +22,8 @@ fragments have one (RocksDB's `recycle_log_file_num`), and 0 where they have non
 RocksDB's.
 
 A batch, a recovery, records and a scan are used on the thread that made them: elsewhere a call raises `RuntimeError`.
-Each may be closed, or used in a `with`; otherwise that is done once nobody uses it any more.
+Each may be closed, or used in a `with`; otherwise that is done once nobody uses it any more. None can be copied or
+pickled: `Recovery.share` makes another one.
 
 If there is no memory, `MemoryError` is raised; whatever else isn't done raises a subclass of `Error`.
 """
@@ -36,8 +37,8 @@ from typing import NamedTuple
 __all__ = [
     *("Batch", "BatchHead", "Damage", "End", "Error", "Kind", "LogWriter", "Mode", "NoBatch", "Op", "Operation"),
     *("Pair", "PastEnd", "Place", "Record", "Records", "Recovery", "Scan", "Tag", "TooLarge", "Unread", "Why"),
-    *("all_operations", "batch_head", "crc32c", "crc32c_mask", "operations", "read_batch", "record_bytes", "recover"),
-    *("BATCH_HEADER_LEN", "BLOCK_LEN", "MAX_BATCH"),
+    *("all_operations", "batch_head", "crc32c", "crc32c_mask", "is_proved", "operations", "read_batch"),
+    *("record_bytes", "recover", "BATCH_HEADER_LEN", "BLOCK_LEN", "MAX_BATCH"),
 ]
 
 BLOCK_LEN = 32_768
@@ -49,14 +50,15 @@ BATCH_HEADER_LEN = 12
 MAX_BATCH = 16_777_216
 """The most bytes of a `Batch`."""
 
-_VERSION = 7
+_VERSION = 8
 
 # The number of the binary interface, which the shared library's name has.
 _ABI = 3
 
 
 class Why(enum.IntEnum):
-    """Why reading or recovery ended, or why bytes are no batch. As a string it is the word of `docs/RECOVERY.md`."""
+    """Why reading or recovery ended, or why bytes are no batch. As a string it is the word of the
+    repository's `docs/RECOVERY.md`."""
 
     CLEAN = 1
     SHORT_HEADER = 2
@@ -157,8 +159,9 @@ class Record(NamedTuple):
 
 
 class Unread(NamedTuple):
-    """A stretch of a log in which no record reads: from the end of a record, or from where the scan began, up to where
-    the next record begins; and where and why reading first ended there."""
+    """A stretch of a log in which no record reads: from `start`, the end of a record, or where the scan began, up to
+    `stop`, where the next record begins; and where and why reading first ended there. In C and Rust the two offsets are
+    `from` and `to`: the first of these is a keyword here."""
 
     start: int
     stop: int
@@ -295,10 +298,14 @@ def _load():
         places = [os.path.join(here, os.pardir, it, name) for it in ("out", "lib")]
         library = ctypes.CDLL(next((it for it in places if os.path.exists(it)), name))
     u32, u64, size, at = ctypes.c_uint32, ctypes.c_uint64, ctypes.c_size_t, ctypes.c_void_p
+    # Another version may have other functions, and other structures.
+    library.wz_version.argtypes, library.wz_version.restype = [], u32
+    if library.wz_version() != _VERSION:
+        raise ImportError(f"wolzenn.py is for version {_VERSION} of the library, and not {library.wz_version()}")
     handle, place = ctypes.POINTER(_Handle), ctypes.POINTER(size)
     end, data = ctypes.POINTER(_End), [at, size]
     types = {
-        "version": [],
+        "is_proved": [],
         "close": [handle],
         "crc32c": data,
         "crc32c_extend": [u32, *data],
@@ -338,10 +345,8 @@ def _load():
     for word, arguments in types.items():
         function = getattr(library, f"wz_{word}")
         function.argtypes, function.restype = arguments, u32
-    library.wz_close.restype = None
+    library.wz_close.restype, library.wz_is_proved.restype = None, ctypes.c_bool
     library.wz_log_record_len.restype = size
-    if library.wz_version() != _VERSION:
-        raise ImportError(f"wolzenn.py is for version {_VERSION} of the library, and not {library.wz_version()}")
     return library
 
 
@@ -418,11 +423,25 @@ def _within(number, bits, what):
 
 
 class _Held:
-    """A handle that holds something. It is used on the thread that made it, so that no two threads use it at once."""
+    """A handle that holds something. It is used on the thread that made it, so that no two threads use it at once, and
+    is never copied: two copies of a handle would free the same memory twice."""
 
-    def __init__(self):
+    _handle = None
+
+    def __init__(self, opens):
+        """Opens something in a new handle by this call. Where that fails this is closed."""
+        # Where this is called again, what the old handle holds is freed.
+        self.close()
         # Another thread may be the first to use it, where that is said.
         self._handle, self._thread = _Handle(), threading.get_ident()
+        try:
+            opens()
+        except BaseException:
+            self.close()
+            raise
+
+    def __reduce_ex__(self, protocol):
+        raise TypeError(f"a {type(self).__name__} can't be copied or pickled")
 
     def _own(self):
         """The handle, for a call."""
@@ -447,14 +466,62 @@ class _Held:
 
     def __del__(self):
         # Nobody uses it any more, so any thread may free it.
-        if getattr(self, "_handle", None) is not None and _library is not None:
+        if self._handle is not None and _library is not None:
             _library.wz_close(self._handle)
+
+
+def is_proved():
+    """Whether the shared library was built of sources that had been proved on the machine that built it."""
+    return _library.wz_is_proved()
 
 
 # ---- reading
 
 
-class Records(_Held):
+class _Reading(_Held):
+    """A reader or a scan of a log, which is opened by this function of the library.
+
+    What the library finds it writes into structures that last. A record is taken out of them once its bytes are copied:
+    so none is lost where there is no memory for the copy, or where a `KeyboardInterrupt` comes before it. The next call
+    gives it then. A record's end and a stretch's are never 0, which says here that there is none.
+    """
+
+    _log = None
+
+    def __init__(self, open_at, log, number, place):
+        def opens():
+            self.end, self._log = None, None
+            self._record, self._unread, self._found_end = _Record(), _Unread(), _End()
+            words = (_within(number, 32, "the number of a log"), _within(place, 64, "a place"))
+            self._log = _Bytes(log)
+            if _answer(open_at(self._own(), *words, self._log.at, self._log.len), _RANGE) == _RANGE:
+                raise PastEnd("the log ends before this place")
+
+        super().__init__(opens)
+
+    def __iter__(self):
+        return self
+
+    def _next(self, find, copy):
+        """Finds the next record, unless one was found that isn't given yet, and copies it."""
+        if self.end is not None:
+            raise StopIteration
+        if self._record.end == 0 and _answer(find(), _END, _UNREAD) == _END:
+            self.end = self._found_end.told()
+            self.close()
+            raise StopIteration
+        room = _room(self._record.len)
+        _answer(copy(self._own(), ctypes.addressof(room), self._record.len))
+        return Record(self._record.start, self._record.end, room.raw)
+
+    def close(self):
+        """Frees what it holds, and lets go of the log. That is done too once there is no next record."""
+        super().close()
+        if self._log is not None:
+            self._log.close()
+
+
+class Records(_Reading):
     """The records of a log from its first on, or after `place`: the end of a record, or 0. So of a log that grows each
     record is read once: `log` is then all that it has by now, from its start on. Given a sequence, `since` skips the
     batches that take no sequence or end before it; a record that is no batch isn't skipped.
@@ -464,43 +531,22 @@ class Records(_Held):
     """
 
     def __init__(self, log, number=0, place=0, since=None):
-        super().__init__()
-        self.end, self._log = None, None
         self._since = None if since is None else _within(since, 64, "a sequence")
-        words = (_within(number, 32, "the number of a log"), _within(place, 64, "a place"))
-        self._log = _Bytes(log)
-        code = _library.wz_reader_open_at(self._own(), *words, self._log.at, self._log.len)
-        if _answer(code, _RANGE) == _RANGE:
-            self.close()
-            raise PastEnd("the log ends before this place")
-
-    def __iter__(self):
-        return self
+        super().__init__(_library.wz_reader_open_at, log, number, place)
 
     def __next__(self):
-        if self.end is not None:
-            raise StopIteration
-        reader, record, end, log = self._own(), _Record(), _End(), (self._log.at, self._log.len)
+        record = self._next(self._find, _library.wz_reader_record)
+        self._record.end = 0
+        return record
+
+    def _find(self):
+        reader, log = self._own(), (self._log.at, self._log.len)
         if self._since is None:
-            code = _library.wz_reader_next(reader, *log, record, end)
-        else:
-            code = _library.wz_reader_next_since(reader, self._since, *log, record, end)
-        if _answer(code, _END) == _END:
-            self.end = end.told()
-            self.close()
-            raise StopIteration
-        room = _room(record.len)
-        _answer(_library.wz_reader_record(reader, ctypes.addressof(room), record.len))
-        return Record(record.start, record.end, room.raw)
-
-    def close(self):
-        """Frees the reader, and lets go of the log. That is done too once there is no next record."""
-        super().close()
-        if self._log is not None:
-            self._log.close()
+            return _library.wz_reader_next(reader, *log, self._record, self._found_end)
+        return _library.wz_reader_next_since(reader, self._since, *log, self._record, self._found_end)
 
 
-class Scan(_Held):
+class Scan(_Reading):
     """The records of a log, also those after damage, from its first on, or after `place`: the end of a record, or 0. So
     of a log that grows each record is found once at most: `log` is then all that it has by now, from its start on.
 
@@ -511,36 +557,17 @@ class Scan(_Held):
     """
 
     def __init__(self, log, number=0, place=0):
-        super().__init__()
-        self.end, self._log = None, None
-        words = (_within(number, 32, "the number of a log"), _within(place, 64, "a place"))
-        self._log = _Bytes(log)
-        code = _library.wz_scan_open_at(self._own(), *words, self._log.at, self._log.len)
-        if _answer(code, _RANGE) == _RANGE:
-            self.close()
-            raise PastEnd("the log ends before this place")
-
-    def __iter__(self):
-        return self
+        super().__init__(_library.wz_scan_open_at, log, number, place)
 
     def __next__(self):
-        if self.end is not None:
-            raise StopIteration
-        scan, record, unread, end = self._own(), _Record(), _Unread(), _End()
-        code = _library.wz_scan_next(scan, self._log.at, self._log.len, record, unread, end)
-        if _answer(code, _END, _UNREAD) == _END:
-            self.end = end.told()
-            self.close()
-            raise StopIteration
-        room = _room(record.len)
-        _answer(_library.wz_scan_record(scan, ctypes.addressof(room), record.len))
-        return unread.told() if code == _UNREAD else None, Record(record.start, record.end, room.raw)
+        record = self._next(self._find, _library.wz_scan_record)
+        found = self._unread.told() if self._unread.stop > 0 else None, record
+        self._record.end = self._unread.stop = 0
+        return found
 
-    def close(self):
-        """Frees the scan, and lets go of the log. That is done too once there is no next record."""
-        super().close()
-        if self._log is not None:
-            self._log.close()
+    def _find(self):
+        scan, log = self._own(), (self._log.at, self._log.len)
+        return _library.wz_scan_next(scan, *log, self._record, self._unread, self._found_end)
 
 
 # ---- recovery
@@ -557,8 +584,11 @@ class Recovery(_Held):
     """
 
     def __init__(self, log, number, mode):
-        super().__init__()
-        self._recover(_library.wz_recover, log, number, mode)
+        def opens():
+            self.groups, self.last, self.kept, self.end, self._len = 0, 0, 0, None, 0
+            self._recover(_library.wz_recover, log, number, mode)
+
+        super().__init__(opens)
 
     def _recover(self, function, log, number, mode):
         """Whether the log was recovered, by this function. Otherwise recovery has ended in an earlier one."""
@@ -605,8 +635,7 @@ class Recovery(_Held):
         """The same recovery once more, for the thread that uses it first. Nothing is copied: what was recovered is
         freed with the last of them."""
         other = Recovery.__new__(Recovery)
-        _Held.__init__(other)
-        _answer(_library.wz_recovery_share(self._own(), other._handle))
+        _Held.__init__(other, lambda: _answer(_library.wz_recovery_share(self._own(), other._handle)))
         other.groups, other.last, other.kept = self.groups, self.last, self.kept
         other.end, other._len = self.end, self._len
         del other._thread
@@ -625,7 +654,24 @@ class Recovery(_Held):
         return self[index].value if is_there else default
 
     def __iter__(self):
-        return (self[index] for index in range(self._len))
+        return _Pairs(self)
+
+
+class _Pairs:
+    """The pairs of a recovery. It goes on only once a pair is there, as `_Steps` does."""
+
+    def __init__(self, recovery):
+        self._recovery, self._index = recovery, 0
+
+    def __iter__(self):
+        return self
+
+    def __next__(self):
+        if self._index >= len(self._recovery):
+            raise StopIteration
+        pair = self._recovery[self._index]
+        self._index += 1
+        return pair
 
 
 def recover(log, number=0, mode=Mode.POINT):
@@ -670,8 +716,7 @@ class Batch(_Held):
     something can't be added the batch stays as it was."""
 
     def __init__(self, sequence=0):
-        super().__init__()
-        _answer(_library.wz_batch_new(self._own()))
+        super().__init__(lambda: _answer(_library.wz_batch_new(self._own())))
         if sequence != 0:
             self.sequence = sequence
 
@@ -754,24 +799,47 @@ def read_batch(data):
     return BatchHead(head.sequence, head.count)
 
 
+class _Steps:
+    """What a function of the library finds in a batch's bytes, step by step, each as `told` gives it. It goes on only
+    once that is there: so none is lost where there is no memory for it, and the next call gives it then."""
+
+    def __init__(self, data, find, found, told):
+        self._bytes, self._view = _Bytes(data), memoryview(data).cast("B")
+        self._at, self._place, self._why = BATCH_HEADER_LEN, ctypes.c_size_t(), _End()
+        self._find, self._found, self._told = find, found, told
+        self._words = self._bytes.at, self._bytes.len, self._place, found, self._why
+
+    def __iter__(self):
+        return self
+
+    def __next__(self):
+        if self._bytes is None:
+            raise StopIteration
+        self._place.value = self._at
+        code = self._find(*self._words)
+        if _answer(code, _END, _NO_BATCH, _RANGE) == _DONE:
+            told = self._told(self._found, self._view)
+            self._at = self._place.value
+            return told
+        self._bytes = self._view = None
+        if code == _NO_BATCH:
+            raise NoBatch(self._why.told())
+        if code == _RANGE:
+            # There are fewer bytes than a header has.
+            raise NoBatch(End(0, Why.SHORT))
+        raise StopIteration
+
+
+def _op_of(op, view):
+    kind, value = Kind(op.kind), None
+    if kind in (Kind.VALUE, Kind.VALUE_CF):
+        value = bytes(view[op.value_at : op.value_at + op.value_len])
+    return Op(kind, op.family, bytes(view[op.key_at : op.key_at + op.key_len]), value)
+
+
 def operations(data):
     """Gives the operations of a batch's bytes one by one. NoBatch where no operation is, and then no more."""
-    place, op, why = ctypes.c_size_t(BATCH_HEADER_LEN), _Op(), _End()
-    with _Bytes(data) as it:
-        view = memoryview(data).cast("B")
-        while True:
-            code = _library.wz_batch_next(it.at, it.len, place, op, why)
-            if _answer(code, _END, _NO_BATCH, _RANGE) != _DONE:
-                break
-            kind, value = Kind(op.kind), None
-            if kind in (Kind.VALUE, Kind.VALUE_CF):
-                value = bytes(view[op.value_at : op.value_at + op.value_len])
-            yield Op(kind, op.family, bytes(view[op.key_at : op.key_at + op.key_len]), value)
-    if code == _NO_BATCH:
-        raise NoBatch(why.told())
-    if code == _RANGE:
-        # There are fewer bytes than a header has.
-        raise NoBatch(End(0, Why.SHORT))
+    return _Steps(data, _library.wz_batch_next, _Op(), _op_of)
 
 
 def batch_head(data):
@@ -783,24 +851,16 @@ def batch_head(data):
     return BatchHead(head.sequence, head.count) if _answer(code, _NO_BATCH) == _DONE else None
 
 
+def _operation_of(found, view):
+    spans = [(found.first_at, found.first_len), (found.second_at, found.second_len)][: found.strings]
+    strings = tuple(bytes(view[at : at + length]) for at, length in spans)
+    return Operation(Tag(found.tag), found.family, found.sequences, strings)
+
+
 def all_operations(data):
     """Gives the operations of a batch's bytes one by one, of all kinds that RocksDB writes, as `operations` gives those
     that recovery applies. NoBatch where it isn't known what comes next, and then no more."""
-    place, found, why = ctypes.c_size_t(BATCH_HEADER_LEN), _Operation(), _End()
-    with _Bytes(data) as it:
-        view = memoryview(data).cast("B")
-        while True:
-            code = _library.wz_operation_next(it.at, it.len, place, found, why)
-            if _answer(code, _END, _NO_BATCH, _RANGE) != _DONE:
-                break
-            spans = [(found.first_at, found.first_len), (found.second_at, found.second_len)][: found.strings]
-            strings = tuple(bytes(view[at : at + length]) for at, length in spans)
-            yield Operation(Tag(found.tag), found.family, found.sequences, strings)
-    if code == _NO_BATCH:
-        raise NoBatch(why.told())
-    if code == _RANGE:
-        # There are fewer bytes than a header has.
-        raise NoBatch(End(0, Why.SHORT))
+    return _Steps(data, _library.wz_operation_next, _Operation(), _operation_of)
 
 
 # ---- writing
@@ -840,8 +900,8 @@ class LogWriter:
         while left:
             # A file that isn't buffered may take a part only.
             taken = self.file.write(left)
-            if not taken:
-                raise OSError("the file takes no bytes")
+            if taken is None or not 0 < taken <= len(left):
+                raise OSError(f"the file says that it took {taken} of {len(left)} bytes")
             left = left[taken:]
         self._has_failed = False
         self.offset = end

@@ -1,5 +1,5 @@
 -- What is written of a log's records, by how showing them ended.
-use Rattle.std.proofs.Common.{inl, inr, ◌≡◌, ◌⊎◌, ⊎_elim, ℕ, Bool, true, false, List, Option, None, Some, IfSome, refl, sym, subst}
+use Rattle.std.proofs.Common.{inl, inr, ◌≡◌, ⊎_elim, ℕ, Bool, true, false, List, Option, None, Some, IfSome, refl, sym, subst}
 use Rattle.std.specs.Prelude.{is_some}
 use Rattle.log_scan.specs.Resuming.{own_number}
 use Rattle.list_log.specs.Showing.{AnswersShowing}

@@ -26,6 +26,13 @@ use Rattle.list_call.specs.StateTexts.{state_text}
 use Rattle.list_call.specs.declared.status.Status.{Status}
 use Rattle.list_call.specs.declared.status.Status.TheVariants as status
 
+-- ---- the number
+
+-- the number with which a log is read: the one that is said, and otherwise the one in its first header, if it has one
+-- and reads with it
+abbrev pub number_for : Option ℕ → List ℕ → Option ℕ
+number_for said file = option_or said (own_number file)
+
 -- ---- `list` and `scan`
 
 -- a spelling may give no key
@@ -50,11 +57,6 @@ pub record AreAsked (words : ListWords) (settings : Settings) : Type 0 where
   pub to : settings.to ≡ words.to
   pub key : key_asked words ≡ Some (wanted.key_in settings)
   pub scan : settings.scan ≡ words.scan
-
--- the number with which a log is read: the one that is said, and otherwise the one in its first header, if it has one
--- and reads with it
-abbrev pub number_for : Option ℕ → List ℕ → Option ℕ
-number_for said file = option_or said (own_number file)
 
 -- the text of the counts, or that of the records
 abbrev pub IsTextOf : Bool → Settings → Option ℕ → List ℕ → List ℕ → Type 0
@@ -122,27 +124,33 @@ WritesList words file before after status.Damage = ⊥
 
 -- ---- `state`
 
--- this is the text of what is recovered of a file, and the mode accepts its end
-pub record IsState (words : StateWords) (file text : List ℕ) : Type 0 where
+-- this is the text of what is recovered of a file, read with this number or with none, and the mode accepts its end
+pub record IsState (words : StateWords) (number : Option ℕ) (file text : List ℕ) : Type 0 where
   pub recovered : Recovered
-  pub is : IsRecovered words.number file recovered
-  pub accepted : Accepts words.number words.mode file recovered.at recovered.why
+  pub is : IsRecovered number file recovered
+  pub accepted : Accepts number words.mode file recovered.at recovered.why
   pub text_is : text ≡ state_text words.form recovered
 
--- recovery of the file ends like this, and the mode doesn't accept that
-pub record IsRefused (words : StateWords) (file : List ℕ) : Type 0 where
+-- recovery of the file, read with this number or with none, ends like this, and the mode doesn't accept that
+pub record IsRefused (words : StateWords) (number : Option ℕ) (file : List ℕ) : Type 0 where
   pub recovered : Recovered
-  pub is : IsRecovered words.number file recovered
-  pub refused : Accepts words.number words.mode file recovered.at recovered.why → ⊥
+  pub is : IsRecovered number file recovered
+  pub refused : Accepts number words.mode file recovered.at recovered.why → ⊥
 
+module _ (words : StateWords) (number : Option ℕ) (file : List ℕ) (before after : Option (List ℕ)) where
+  -- what was written of a file that is read with this number or with none, by the status
+  abbrev pub WritesStateBy : Status → Type 0
+  WritesStateBy status.Done = (text : List ℕ) × IsState words number file text × Appends before after text
+  WritesStateBy status.Sink =
+      (text : List ℕ) × IsState words number file text × ((n : ℕ) × Appends before after (take n text))
+  WritesStateBy status.Memory = after ≡ before
+  WritesStateBy status.Disk = after ≡ before
+  WritesStateBy status.Damage = IsRefused words number file × (after ≡ before)
+  WritesStateBy status.Words = ⊥
+
+-- the same of a file that is read with the number for it
 abbrev pub WritesState : StateWords → List ℕ → Option (List ℕ) → Option (List ℕ) → Status → Type 0
-WritesState words file before after status.Done = (text : List ℕ) × IsState words file text × Appends before after text
-WritesState words file before after status.Sink =
-    (text : List ℕ) × IsState words file text × ((n : ℕ) × Appends before after (take n text))
-WritesState words file before after status.Memory = after ≡ before
-WritesState words file before after status.Disk = after ≡ before
-WritesState words file before after status.Damage = IsRefused words file × (after ≡ before)
-WritesState words file before after status.Words = ⊥
+WritesState words file before after given = WritesStateBy words (number_for words.number file) file before after given
 
 -- this text tells what is recovered
 abbrev pub Tells : Form → code.Recovered → List ℕ → Type 0

@@ -2,6 +2,7 @@
 //! said in sentences on a second one, standard error. No clause says anything of the sentences.
 //!
 //! - `call`, `status`: the call, and how it ends
+//! - `numbers`: the number with which a log is read
 //! - `listing`: `list` and `scan`
 //! - `state`, `state_text`, `laws`: what the log recovers, and that its text is that of `recover`
 //! - `sentences`, `around`: what is said at an end and at a fault
@@ -12,6 +13,7 @@ mod around;
 mod call;
 mod laws;
 mod listing;
+mod numbers;
 mod sentences;
 mod state;
 mod state_text;

@@ -1,12 +1,12 @@
 //! `list` and `scan`.
 
-ghost use Rattle.std.specs.Prelude.{◌≡◌, Some, option_map, IfSome, IfOk, IfErr, OnOk};
-ghost use Rattle.log_reader.specs.Opens.{IsOpenError};
+ghost use Rattle.std.specs.Prelude.{◌≡◌, Some, option_map, IfSome};
 ghost use Rattle.list_log.specs.Showing.{HasShownCauses};
 ghost use Rattle.list_call.specs.Calls as calls;
 ghost use Rattle.list_call.specs.Calls.{HasCauses, WritesBy, WritesList, key_asked};
 
-use crate::sentences::{say, say_number};
+use crate::numbers::number_for;
+use crate::sentences::say;
 use crate::status::{Answer, LogEnd, Status, ended};
 use base_bytes::Bytes;
 use base_devices::{ReadAt, Sink};
@@ -14,11 +14,9 @@ use list_log::{Settings, Shown, show, summarize};
 use list_text::{KeyError, key_of};
 use list_words::ListWords;
 use log_reader::OpenError;
-use log_scan::own_number;
 use std::alloc::Global;
 
-/// Shows the log's records, or counts. If no number is said, it is the one that the log's first header has, if it
-/// has one and reads with it.
+/// Shows the log's records, or counts.
 pub fn list_log<R: ReadAt, K: Sink, E: Sink>(
     alloc: Global,
     words: ListWords<'_>,
@@ -37,13 +35,13 @@ pub fn list_log<R: ReadAt, K: Sink, E: Sink>(
         Err(KeyError::NotAKey) => {
             say(
                 errors,
-                "the key isn't spelled right: hexadecimal digits, or with --text a text",
+                "the key isn't spelled right: hexadecimal digits, `-` if it is empty, or with --text a text",
             );
             return ended(Status::Words);
         }
         Err(KeyError::NoMemory) => return ended(Status::Memory),
     };
-    let number = match number_for(alloc, words, file, errors) {
+    let number = match number_for(alloc, words.number, file, errors) {
         Ok(number) => number,
         Err(OpenError::Fault { count: _ }) => return ended(Status::Disk),
         Err(OpenError::NoMemory) => return ended(Status::Memory),
@@ -73,30 +71,6 @@ fn slice_of(key: &Option<Bytes>) -> Option<&[u8]>
         Some(key) => Some(key.as_slice()),
         None => None,
     }
-}
-
-/// The number with which the log is read: the one that is said, and otherwise the one in its first header, if it
-/// reads with it. What was done is said, unless a number was.
-fn number_for<R: ReadAt, E: Sink>(
-    alloc: Global,
-    words: ListWords<'_>,
-    file: &mut R,
-    errors: &mut E,
-) -> Result<Option<u32>, OpenError>
-    ensures number { IfSome (R.held file.old) (λ bytes. IfOk result
-        (λ n. n ≡ calls.number_for words.entry.number bytes)) }
-    ensures worked { OnOk result (R.failures file.new ≡ R.failures file.old) }
-    ensures error { IfErr result (IsOpenError (R.failures file.old) (R.failures file.new)) }
-    ensures file { R.only_reads file.old file.new }
-{
-    if words.number.is_some() {
-        return Ok(words.number);
-    }
-    let number = own_number(alloc, file)?;
-    if let Some(number) = number {
-        say_number(errors, number);
-    }
-    Ok(number)
 }
 
 /// Shows the records of a log that is read with this number or with none, or counts.

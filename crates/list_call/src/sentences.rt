@@ -1,7 +1,7 @@
 //! What is said on standard error. It is for people, and may change: no clause says anything of it.
 
 use crate::around::say_around;
-use crate::status::{Answer, Status};
+use crate::status::{Answer, LogEnd, Status};
 use base_devices::{ReadAt, Sink, write_all};
 use itoa::Buffer;
 use log_scan::first_number;
@@ -63,27 +63,22 @@ fn say_first_number_at<R: ReadAt, E: Sink>(
 }
 
 /// Says what the end of a call may mean, with the bytes around it, if all was shown or the mode doesn't accept that
-/// end, unless it is that of a whole log. The file is read for it.
-pub fn say_after<R: ReadAt, E: Sink>(answer: Answer, file: &mut R, errors: &mut E)
+/// end, unless it is that of a whole log. The file is read for it. `page` is where the page RECOVERY is.
+pub fn say_after<R: ReadAt, E: Sink>(answer: Answer, page: &str, file: &mut R, errors: &mut E)
     ensures file { R.only_reads file.old file.new }
 {
     if let (Status::Done | Status::Damage, Some(end)) = (answer.status, answer.end) {
-        say_end(file, errors, end.number, end.at, end.why);
+        say_end(end, page, file, errors);
     }
 }
 
-fn say_end<R: ReadAt, E: Sink>(
-    file: &mut R,
-    errors: &mut E,
-    number: Option<u32>,
-    at: u64,
-    why: EndReason,
-)
+fn say_end<R: ReadAt, E: Sink>(end: LogEnd, page: &str, file: &mut R, errors: &mut E)
     ensures file { R.only_reads file.old file.new }
 {
+    let LogEnd { number, at, why } = end;
     match why {
         EndReason::Clean => {}
-        EndReason::Broken(Damage::OldLog(other)) => say_old_log(file, errors, number, at, other),
+        EndReason::Broken(Damage::OldLog(other)) => say_old_log(end, other, page, file, errors),
         _ => {
             say_first_number_at(file, errors, number, at);
             put(errors, "wzlog: reading ended at ");
@@ -92,7 +87,7 @@ fn say_end<R: ReadAt, E: Sink>(
             put(errors, meaning_of(why));
             put(errors, "\n");
             say_older(errors, number, why);
-            say_to_do(errors, why);
+            say_to_do(errors, why, page);
             say_around(file, errors, at);
         }
     }
@@ -100,25 +95,25 @@ fn say_end<R: ReadAt, E: Sink>(
 
 /// Says what it means that a newer log's fragment follows. An older one's is how a log ends that was written over it.
 fn say_old_log<R: ReadAt, E: Sink>(
+    end: LogEnd,
+    other: u32,
+    page: &str,
     file: &mut R,
     errors: &mut E,
-    number: Option<u32>,
-    at: u64,
-    other: u32,
 )
     ensures file { R.only_reads file.old file.new }
 {
-    if number.is_some_and(|number| other > number) {
+    if end.number.is_some_and(|number| other > number) {
         put(errors, "wzlog: the fragment at ");
-        put_number(errors, at);
+        put_number(errors, end.at);
         put(errors, " is of the log ");
         put_number(errors, u64::from(other));
         put(
             errors,
             ": the number is wrong, or another file has this name\n",
         );
-        say_to_do(errors, EndReason::Broken(Damage::OldLog(other)));
-        say_around(file, errors, at);
+        say_to_do(errors, end.why, page);
+        say_around(file, errors, end.at);
     }
 }
 
@@ -138,10 +133,12 @@ fn say_older<E: Sink>(errors: &mut E, number: Option<u32>, why: EndReason) {
 }
 
 /// Says what to do at an end, and where more is said of it.
-fn say_to_do<E: Sink>(errors: &mut E, why: EndReason) {
+fn say_to_do<E: Sink>(errors: &mut E, why: EndReason, page: &str) {
     put(errors, "wzlog: to do: ");
     put(errors, to_do(why));
-    put(errors, "\nwzlog: docs/RECOVERY.md, heading `");
+    put(errors, "\nwzlog: ");
+    put(errors, page);
+    put(errors, ", heading `");
     put(errors, heading_of(why));
     put(errors, "`, says more\n");
 }
@@ -178,8 +175,7 @@ fn meaning_of_damage(damage: Damage) -> &'static str {
             "the header asks for more bytes than are left: an incomplete or torn write, or a damaged length",
         Damage::BadType(5..=8) =>
             "a fragment of a log with a number: --number N, the number of the file's name",
-        Damage::BadType(9) =>
-            "this log is compressed: RocksDB's `ldb dump_wal` reads it; what `wzlog scan` shows of it means nothing",
+        Damage::BadType(9) => "this log is compressed: RocksDB's `ldb dump_wal` reads it",
         Damage::BadType(10 | 11) =>
             "the sizes of user-defined timestamps, which aren't read; `wzlog scan` goes on after them",
         Damage::BadType(130 | 131) =>
@@ -193,7 +189,7 @@ fn meaning_of_damage(damage: Damage) -> &'static str {
     }
 }
 
-/// What to do at an end, in short, as docs/RECOVERY.md says under its heading. A log is truncated in a copy of it.
+/// What to do at an end, in short, as the page RECOVERY says under its heading. A log is truncated in a copy of it.
 fn to_do(why: EndReason) -> &'static str {
     match why {
         EndReason::Clean => "nothing",
@@ -235,7 +231,7 @@ fn to_do_at_damage(damage: Damage) -> &'static str {
     }
 }
 
-/// The heading in docs/RECOVERY.md.
+/// The heading in the page RECOVERY.
 fn heading_of(why: EndReason) -> &'static str {
     match why {
         EndReason::Clean => "clean",

@@ -1,14 +1,16 @@
 //! What the log recovers.
 
 ghost use Rattle.std.specs.Prelude.{IfSome};
-ghost use Rattle.list_call.specs.Calls.{HasCauses, WritesRecovered, WritesState};
+ghost use Rattle.list_call.specs.Calls.{HasCauses, WritesRecovered, WritesState, WritesStateBy};
 
+use crate::numbers::number_for;
 use crate::sentences::say;
 use crate::state_text::state_text;
 use crate::status::{Answer, LogEnd, Status, ended};
 use base_devices::{ReadAt, Sink, write_all};
 use list_text::Form;
 use list_words::StateWords;
+use log_reader::OpenError;
 use log_recovery::{End, RecoverError, Recovered, recover_mode};
 use std::alloc::Global;
 
@@ -26,7 +28,29 @@ pub fn show_state<R: ReadAt, K: Sink, E: Sink>(
         result.status }
     ensures file { R.only_reads file.old file.new }
 {
-    let number = words.number;
+    let number = match number_for(alloc, words.number, file, errors) {
+        Ok(number) => number,
+        Err(OpenError::Fault { count: _ }) => return ended(Status::Disk),
+        Err(OpenError::NoMemory) => return ended(Status::Memory),
+    };
+    show_state_by(alloc, words, number, file, sink, errors)
+}
+
+/// Shows what is recovered of a log that is read with this number or with none.
+fn show_state_by<R: ReadAt, K: Sink, E: Sink>(
+    alloc: Global,
+    words: StateWords<'_>,
+    number: Option<u32>,
+    file: &mut R,
+    sink: &mut K,
+    errors: &mut E,
+) -> Answer
+    ensures written { IfSome (R.held file.old) (λ bytes. WritesStateBy words.entry number bytes (K.taken sink.old)
+        (K.taken sink.new) result.status) }
+    ensures causes { HasCauses (R.failures file.old) (R.failures file.new) (K.faults sink.old) (K.faults sink.new)
+        result.status }
+    ensures file { R.only_reads file.old file.new }
+{
     match recover_mode(alloc, file, number, words.mode) {
         Ok(recovered) => {
             let End { at, why } = recovered.end;

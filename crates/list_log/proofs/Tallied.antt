@@ -1,45 +1,63 @@
--- Where the count of a tag and a family is.
-use Rattle.std.proofs.Common.{◌≡◌, ℕ, zero, suc, ◌<◌, ◌≤◌, Bool, true, false, ◌||◌, cond, List, [], ◌∷◌, ◌++◌, length, take, set, get_or, Option, refl, ◌∙◌, ap, subst, arith}
-use Rattle.std.specs.List.{list_any}
-use Rattle.std.proofs.lemmas.List.{take_all}
-use Rattle.list_log.specs.Totals.{IsPlaceOf, counted, first_one, is_of, one_more}
+-- Where the count of a kind is, and that counting keeps it there.
+use Rattle.std.proofs.Common.{◌≡◌, ℕ, ◌<◌, ◌≤◌, Bool, true, not, cond, List, [], ◌∷◌, ◌++◌, length, set, get_or, Option, Some, None, BTreeMap, refl, sym, ◌∙◌, ap, subst, arith}
+use Rattle.std.specs.BTreeMap.{Updates, get, is_at}
+use Rattle.std.specs.List.{position, position_or_len}
+use Rattle.std.proofs.lemmas.Grind.{common_steps}
+use Rattle.std.proofs.lemmas.List.Folds.{position_or_len-set, position_or_len_push}
+use Rattle.std.proofs.lemmas.List.Sums.{prefix_len-le-length}
+use Rattle.list_log.specs.Places.{KnowsPlaces, kind_order}
+use Rattle.list_log.specs.Totals.{counted, first_one, is_of, one_more}
+use Rattle.list_log.specs.declared.tallies.Kind.{Kind}
 use Rattle.list_log.specs.declared.tallies.Tally.{Tally}
 
-neither : (a b : Bool) → (a || b) ≡ false → (a ≡ false) × (b ≡ false)
-neither true b e = absurd (cc e)
-neither false b e = (refl, e)
+found : {X : Type 0} (p : X → Bool) (xs : List X) (at : ℕ) → position p xs ≡ Some at → (at < length xs) × (position_or_len p xs ≡ at)
+found p xs at is = (grind (arith, common_steps), grind (arith, common_steps))
 
-picked : {T : Type 0} (b : Bool) (p q : T) → b ≡ true → cond b p q ≡ p
-picked true p q is = refl
-picked false p q is = absurd (cc is)
+missed : {X : Type 0} (p : X → Bool) (xs : List X) → position p xs ≡ None → length xs ≤ position_or_len p xs
+missed p xs is = grind (arith, common_steps)
 
-passed : {T : Type 0} (b : Bool) (p q : T) → b ≡ false → cond b p q ≡ q
-passed true p q is = absurd (cc is)
-passed false p q is = refl
+-- the count of a kind that has come is the first one that is of it
+counted_first : (tag : ℕ) (family : Option ℕ) (ts : List Tally) (d : Tally) → position_or_len (is_of tag family) ts < length ts
+    → counted tag family ts ≡ set ts (position_or_len (is_of tag family) ts) (one_more (get_or ts (position_or_len (is_of tag family) ts) d))
+counted_first tag family [] d within = absurd (omega (arith, within))
+counted_first tag family (t ∷ ts) d within = grind (arith, common_steps, counted_first tag family ts d)
 
-placed_at : (tag : ℕ) (family : Option ℕ) (ts : List Tally) (at : ℕ) (d : Tally) → at < length ts → list_any (is_of tag family) (take at ts) ≡ false → is_of tag family (get_or ts at d) ≡ true
-    → counted tag family ts ≡ set ts at (one_more (get_or ts at d))
-placed_at tag family [] at d within none is = absurd (omega (arith, within))
-placed_at tag family (t ∷ ts) zero d within none is = picked (is_of tag family t) (one_more t ∷ ts) (t ∷ counted tag family ts) is
-placed_at tag family (t ∷ ts) (suc at) d within none is =
-    let split = neither (is_of tag family t) (list_any (is_of tag family) (take at ts)) none in
-    passed (is_of tag family t) (one_more t ∷ ts) (t ∷ counted tag family ts) split.0 ∙ ap (λ (l : List Tally). t ∷ l) (placed_at tag family ts at d (omega (arith, within)) split.1 is)
+counted_last : (tag : ℕ) (family : Option ℕ) (ts : List Tally) → length ts ≤ position_or_len (is_of tag family) ts → counted tag family ts ≡ ts ++ first_one tag family ∷ []
+counted_last tag family [] none = refl
+counted_last tag family (t ∷ ts) none = grind (arith, common_steps, counted_last tag family ts)
 
-added : (tag : ℕ) (family : Option ℕ) (ts : List Tally) → list_any (is_of tag family) ts ≡ false → counted tag family ts ≡ ts ++ first_one tag family ∷ []
-added tag family [] none = refl
-added tag family (t ∷ ts) none =
-    let split = neither (is_of tag family t) (list_any (is_of tag family) ts) none in
-    passed (is_of tag family t) (one_more t ∷ ts) (t ∷ counted tag family ts) split.0 ∙ ap (λ (l : List Tally). t ∷ l) (added tag family ts split.1)
+-- one more of a kind that has come
+pub counted_there : (tag : ℕ) (family : Option ℕ) (ts : List Tally) (at : ℕ) (d : Tally) → position (is_of tag family) ts ≡ Some at
+    → (at < length ts) × (counted tag family ts ≡ set ts at (one_more (get_or ts at d)))
+counted_there tag family ts at d is =
+    let it = found (is_of tag family) ts at is in
+    (it.0, subst (λ (i : ℕ). counted tag family ts ≡ set ts i (one_more (get_or ts i d))) it.1 (counted_first tag family ts d (omega (arith, it.0, it.1))))
 
--- the first one of this tag and family; which item the default is doesn't matter
-pub placed : (tag : ℕ) (family : Option ℕ) (ts : List Tally) (at : ℕ) (d : Tally) → at < length ts → list_any (is_of tag family) (take at ts) ≡ false → is_of tag family (get_or ts at d) ≡ true → IsPlaceOf tag family ts at
-placed tag family ts at d within none is = (within, λ e. placed_at tag family ts at e within none (subst (λ (x : Tally). is_of tag family x ≡ true) (same ts at d e within) is))
-  where
-    same : (xs : List Tally) (i : ℕ) (x y : Tally) → i < length xs → get_or xs i x ≡ get_or xs i y
-    same [] i x y lt = absurd (omega (arith, lt))
-    same (z ∷ xs) zero x y lt = refl
-    same (z ∷ xs) (suc i) x y lt = same xs i x y (omega (arith, lt))
+-- the first one of a kind
+pub counted_new : (tag : ℕ) (family : Option ℕ) (ts : List Tally) → position (is_of tag family) ts ≡ None → counted tag family ts ≡ ts ++ first_one tag family ∷ []
+counted_new tag family ts none = counted_last tag family ts (missed (is_of tag family) ts none)
 
--- none is
-pub not_there : (tag : ℕ) (family : Option ℕ) (ts : List Tally) (at : ℕ) → length ts ≤ at → list_any (is_of tag family) (take at ts) ≡ false → counted tag family ts ≡ ts ++ first_one tag family ∷ []
-not_there tag family ts at all none = added tag family ts (subst (λ (l : List Tally). list_any (is_of tag family) l ≡ false) (take_all at ts all) none)
+-- each kind has the place that it had
+pub places_stay : (places : BTreeMap Kind ℕ) (ts : List Tally) (at : ℕ) (d : Tally) → KnowsPlaces places ts → KnowsPlaces places (set ts at (one_more (get_or ts at d)))
+places_stay places ts at d knows k = grind (arith, common_steps, knows k, position_or_len-set (is_of k.tag k.family) ts at (one_more (get_or ts at d)) d refl)
+
+-- two kinds compare as equal where they are the same
+same_kind : (k q : Kind) → is_at (kind_order k) q ≡ is_of q.tag q.family (first_one k.tag k.family)
+same_kind k q = grind (arith, common_steps)
+
+its_fields : (k q : Kind) → is_of q.tag q.family (first_one k.tag k.family) ≡ true → (q.tag ≡ k.tag) × (q.family ≡ k.family)
+its_fields k q same = (grind (arith, common_steps), grind (arith, common_steps))
+
+position_push : {X : Type 0} (p : X → Bool) (xs : List X) (y : X) → (p y ≡ true → position p xs ≡ None) → position p (xs ++ y ∷ []) ≡ cond (p y) (Some (length xs)) (position p xs)
+position_push p xs y none = grind (arith, common_steps, prefix_len-le-length (λ x. not (p x)) xs, position_or_len_push p xs y, none)
+
+-- a new kind has the last place
+pub places_with_new : (old new : BTreeMap Kind ℕ) (ts : List Tally) (k : Kind) → KnowsPlaces old ts → position (is_of k.tag k.family) ts ≡ None → Updates kind_order old new k (Some (length ts))
+    → KnowsPlaces new (ts ++ first_one k.tag k.family ∷ [])
+places_with_new old new ts k knows none updates q =
+    let first = first_one k.tag k.family in
+    updates.0 q
+    ∙ (ap (λ (b : Bool). cond b (Some (length ts)) (get kind_order old q)) (same_kind k q)
+    ∙ (ap (λ (o : Option ℕ). cond (is_of q.tag q.family first) (Some (length ts)) o) (knows q)
+    ∙ sym (position_push (is_of q.tag q.family) ts first
+    (λ same. let fields = its_fields k q same in subst (λ (f : Option ℕ). position (is_of q.tag f) ts ≡ None) (sym fields.1) (subst (λ (t : ℕ). position (is_of t k.family) ts ≡ None) (sym fields.0) none)))))

@@ -1,5 +1,5 @@
 -- What is counted of a log, in place of showing it.
-use Rattle.std.specs.Prelude.{◌≡◌, ◌⊎◌, ℕ, ◌+◌, ◌-◌, ◌^◌, ◌<◌, ◌&&◌, ◌==◌, min, Bool, List, [], ◌∷◌, ◌++◌, length, take, set, get_or, filter, fold, flat_map, nat_eq, Option, Some, None, Result, Ok, Err, if◌then◌else◌}
+use Rattle.std.specs.Prelude.{◌≡◌, ◌⊎◌, ℕ, ◌+◌, ◌-◌, ◌^◌, ◌&&◌, ◌==◌, min, Bool, List, [], ◌∷◌, ◌++◌, take, filter, fold, flat_map, nat_eq, Option, Some, None, Result, Ok, Err, if◌then◌else◌}
 use Rattle.std.specs.List.{list_any}
 use Rattle.std.specs.Option.{option_eq, option_or}
 use Rattle.std.specs.Io.KnownBytes.{Appends}
@@ -45,11 +45,6 @@ abbrev pub counted : ℕ → Option ℕ → List Tally → List Tally
 counted tag family [] = first_one tag family ∷ []
 counted tag family (t ∷ tallies) =
     if is_of tag family t then one_more t ∷ tallies else t ∷ counted tag family tallies
-
--- at this place is the count of this tag and family
-abbrev pub IsPlaceOf : ℕ → Option ℕ → List Tally → ℕ → Type 0
-IsPlaceOf tag family tallies at = (at < length tallies)
-    × ((d : Tally) → counted tag family tallies ≡ set tallies at (one_more (get_or tallies at d)))
 
 abbrev pub all_counted : List Operation → List Tally → List Tally
 all_counted operations tallies = fold (λ ts (o : Operation). counted o.tag o.family ts) tallies operations

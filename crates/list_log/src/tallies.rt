@@ -1,11 +1,12 @@
 //! How many operations there are of each kind, by family.
 
-ghost use Rattle.std.specs.Prelude.{◌≡◌, ◌<◌, [], ◌∷◌, ◌++◌, set, get_or, vec_len, OnOk, OnErr, IfSome, IfNone};
+ghost use Rattle.std.specs.Prelude.{◌≡◌, ◌<◌, [], set, get_or, vec_len, OnOk, OnErr};
 ghost use Rattle.list_log.specs.Totals as totals;
 ghost use Rattle.list_log.specs.declared.tallies.Tally.{Tally};
 
 use model_base::NoMemory;
 use std::alloc::Global;
+use std::collections::BTreeMap;
 use std::marker::Model;
 
 /// How many operations there are of a tag and a family.
@@ -16,11 +17,20 @@ pub struct Tally {
     pub count: u64,
 }
 
+/// What operations are counted together.
+#[derive(Clone, Copy, PartialEq, Eq, PartialOrd, Ord)]
+struct Kind {
+    tag: u8,
+    family: Option<u32>,
+}
+
 /// Counts of operations, in the order in which their kinds came first. There are as many as tags with their families,
 /// so that this grows with the number of families, and not with the log. A count stops at the greatest `u64`.
 #[derive(Drop)]
 pub struct Tallies {
     items: Vec<Tally>,
+    /// Where the count of each kind is, so that no operation costs a walk through all of them.
+    places: BTreeMap<Kind, usize>,
 }
 
 impl Model for Tallies {
@@ -29,7 +39,11 @@ impl Model for Tallies {
 
     ghost Value = { List Tally };
 
+    ghost use Rattle.list_log.specs.Places.{KnowsPlaces};
+
     ghost view = { λ t. t.items.items };
+
+    ghost invariant = { λ t. KnowsPlaces t.places t.items.items };
 }
 
 impl Tallies {
@@ -39,6 +53,7 @@ impl Tallies {
     {
         Tallies {
             items: Vec::new(alloc),
+            places: BTreeMap::new(alloc),
         }
     }
 
@@ -47,15 +62,22 @@ impl Tallies {
         ensures ok { OnOk result (self.new ≡ totals.counted tag family self.old) }
         ensures err { OnErr result (self.new ≡ self.old) }
     {
-        if let Some(at) = place_of(&self.items, tag, family) {
-            count_one(&mut self.items, at);
+        let kind = Kind { tag, family };
+        if let Some(at) = self.places.get(&kind) {
+            count_one(&mut self.items, *at);
             return Ok(());
         }
-        self.items.push(Tally {
+        // With room for the count, only its place may find no memory, and then nothing has changed.
+        self.items.reserve(1)?;
+        self.places.insert(kind, self.items.len())?;
+        let first = Tally {
             tag,
             family,
             count: 1,
-        })?;
+        };
+        if self.items.push(first).is_err() {
+            unreachable!();
+        }
         Ok(())
     }
 
@@ -65,26 +87,6 @@ impl Tallies {
     {
         &self.items
     }
-}
-
-/// The place of the count of this tag and family, if there is one.
-fn place_of(items: &[Tally], tag: u8, family: Option<u32>) -> Option<usize>
-    ensures some { IfSome result (totals.IsPlaceOf tag family items.now) }
-    ensures none { IfNone result (totals.counted tag family items.now ≡ items.now ++ totals.first_one tag family ∷ []) }
-{
-    // None so far is of this tag and family.
-    for at in 0..items.len() {
-        if is_of(items[at], tag, family) {
-            return Some(at);
-        }
-    }
-    None
-}
-
-fn is_of(tally: Tally, tag: u8, family: Option<u32>) -> bool
-    ensures { result ≡ totals.is_of tag family tally }
-{
-    tally.tag == tag && tally.family == family
 }
 
 /// Adds one to the count at this place.

@@ -1,5 +1,5 @@
 -- A key as it is given on the command line.
-use Rattle.std.specs.Prelude.{ℕ, ◌+◌, ◌*◌, ◌==◌, List, [], ◌∷◌, Option, Some, None, Result, Ok, Err, option_and_then, option_map, if◌then◌else◌}
+use Rattle.std.specs.Prelude.{ℕ, ◌+◌, ◌*◌, ◌==◌, List, [], ◌∷◌, Option, Some, None, Result, Ok, Err, bytes_eq, codes, option_and_then, option_map, if◌then◌else◌}
 use Rattle.hex.specs.Hex.{decode_of, hex_digit_value}
 use Rattle.hex.specs.declared.error.FromHexError.{FromHexError}
 use Rattle.list_text.specs.declared.form.Form.{Form}
@@ -44,6 +44,10 @@ spelled (low_digit high) (low ∷ text) =
 abbrev pub text_key : List ℕ → Option (List ℕ)
 text_key text = spelled anything text
 
+-- the key of a word as the plain form shows it: `-` if it is empty
+abbrev pub hex_key : List ℕ → Option (List ℕ)
+hex_key word = if bytes_eq word (codes "-") then Some [] else digits_key word
+
 -- the key that a word spells in this form
 abbrev pub key_in : Form → List ℕ → Option (List ℕ)
-key_in form word = if form.text then text_key word else digits_key word
+key_in form word = if form.text then text_key word else hex_key word

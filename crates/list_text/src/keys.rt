@@ -30,8 +30,8 @@ impl From<NoRoom> for KeyError {
     }
 }
 
-/// The key that a word spells: in hexadecimal digits, or where keys are shown as text, as a text without quotes. There
-/// a backslash comes twice, or `x` and two digits follow it; any other byte is its own.
+/// The key that a word spells: in hexadecimal digits, and `-` if it is empty; or where keys are shown as text, as a text
+/// without quotes. There a backslash comes twice, or `x` and two digits follow it; any other byte is its own.
 pub fn key_of(alloc: Global, form: Form, word: &str) -> Result<Bytes, KeyError>
     ensures ok { IfOk result (λ key. key_in form word.now ≡ Some key) }
     ensures err { IfErr result (λ e. e ≡ NotAKey → key_in form word.now ≡ None) }
@@ -39,7 +39,18 @@ pub fn key_of(alloc: Global, form: Form, word: &str) -> Result<Bytes, KeyError>
     if form.text {
         text_key(alloc, word.as_bytes())
     } else {
-        digits_key(alloc, word.as_bytes())
+        hex_key(alloc, word)
+    }
+}
+
+/// The key of hexadecimal digits. As it is shown, an empty one is `-`.
+fn hex_key(alloc: Global, word: &str) -> Result<Bytes, KeyError>
+    ensures ok { IfOk result (λ key. keys.hex_key word.now ≡ Some key) }
+    ensures err { IfErr result (λ e. e ≡ NotAKey → keys.hex_key word.now ≡ None) }
+{
+    match word {
+        "-" => Ok(Bytes::new(alloc)),
+        digits => digits_key(alloc, digits.as_bytes()),
     }
 }
 

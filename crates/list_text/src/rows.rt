@@ -22,9 +22,11 @@ pub fn given_keys()
     ensures digits { key_in rows.plain_hex (codes "6b31") ≡ Some (codes "k1") }
     ensures upper_case { key_in rows.plain_hex (codes "FF") ≡ Some (255 ∷ []) }
     ensures nothing { key_in rows.plain_hex [] ≡ Some [] }
+    ensures shown_nothing { key_in rows.plain_hex (codes "-") ≡ Some [] }
     ensures odd { key_in rows.plain_hex (codes "6b3") ≡ None }
     ensures no_digit { key_in rows.plain_hex (codes "6g") ≡ None }
     ensures text { key_in rows.plain_text (codes "user:1") ≡ Some (codes "user:1") }
+    ensures minus_as_text { key_in rows.plain_text (codes "-") ≡ Some (codes "-") }
     ensures escapes { key_in rows.plain_text (codes "\\xff\\\\") ≡ Some (255 ∷ 92 ∷ []) }
     ensures broken_escape { key_in rows.plain_text (codes "a\\xf") ≡ None }
     ensures other_escape { key_in rows.plain_text (codes "\\n") ≡ None }

@@ -53,7 +53,7 @@ const TO: Argument = Argument::NumberOr(
 
 const KEY: Argument = Argument::Word(
     "key",
-    "Only operations about this key: hexadecimal digits, or with --text a text",
+    "Only operations about this key: hexadecimal digits, - if it is empty, or with --text a text",
 );
 
 const TEXT: Argument = Argument::Flag(

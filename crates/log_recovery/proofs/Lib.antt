@@ -13,6 +13,7 @@ pub mod Accepting
 pub mod LogByLog
 pub mod Unread
 pub mod Faults
+pub mod Asking
 pub mod NotDue
 pub mod FollowSteps
 pub mod OneMore

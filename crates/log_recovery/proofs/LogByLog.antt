@@ -1,7 +1,7 @@
 -- What recovery of several logs gives, log by log.
-use Rattle.std.proofs.Common.{◌≡◌, ◌↔◌, IsTrue, ℕ, ◌+◌, ◌<◌, Bool, true, false, List, [], ◌∷◌, ◌++◌, map, fold, Option, IfSome, Result, Ok, Err, IfOk, IfErr, refl, sym, ◌∙◌, ap, subst, arith, append_assoc}
+use Rattle.std.proofs.Common.{◌≡◌, ◌↔◌, IsTrue, ℕ, ◌+◌, ◌<◌, Bool, true, false, List, [], ◌∷◌, ◌++◌, length, map, fold, Option, IfSome, Result, Ok, Err, IfOk, IfErr, refl, sym, ◌∙◌, ap, subst, arith, append_assoc}
 use Rattle.std.specs.List.{AllZip}
-use Rattle.std.proofs.lemmas.List.{map-append}
+use Rattle.std.proofs.lemmas.List.{map-append, nil_from_length}
 use Rattle.std.proofs.lemmas.List.Sums.{fold-append}
 use Rattle.base_devices.proofs.Contents.{of_content}
 use Rattle.base_devices.specs.Disk.{Disk}
@@ -22,7 +22,8 @@ use Rattle.log_recovery.specs.declared.many.RecoveredMany.{RecoveredMany}
 use Rattle.log_recovery.specs.Keeping.{note_of}
 use Rattle.log_recovery.specs.Modes.{Accepts}
 use Rattle.log_recovery.specs.Recovering.{HasKept}
-use Rattle.log_recovery.specs.RecoveringLogs.{Holds, AcceptFrom, AreDamagedFrom, AreReadInTurn, stops, reads_on, AreRecoveredFrom, HaveRecovered, TellDamage, TellDamageFrom, with_count}
+use Rattle.log_recovery.specs.RecoveringLogs.{Holds, AcceptFrom, AreAsked, asks, asks_on, AreDamagedFrom, AreEmpty, AreReadInTurn, stops, reads_on, AreRecoveredFrom, HaveRecovered, TellDamage, TellDamageFrom, with_count}
+use Rattle.log_recovery.proofs.Asking.{asked_after}
 use Rattle.log_recovery.proofs.Accepting.{accepts_first, refuses_first, accepts_later, accepted_later}
 
 -- the answer where recovery ends in this log
@@ -121,6 +122,33 @@ module _ {D : Type 0} (ghosts : Ghosts D) (disks : List D) (disk : D) (rest : Li
   pub all_stop : (new : D) (last : ℕ) (files : List (List ℕ)) → AreReadInTurn last files disks (new ∷ rest)
   all_stop new last files = subst (λ (l : List D). AreReadInTurn last files l (new ∷ rest)) (sym parts) stops
 
+  -- what is said of the first one and of the others is said of all
+  pub in_turn_of_all : (last : ℕ) (news : List D) → ((files : List (List ℕ)) → AllZip (Holds ghosts) (disk ∷ rest) files → AreReadInTurn last files (disk ∷ rest) news) → (files : List (List ℕ)) → AllZip (Holds ghosts) disks files → AreReadInTurn last files disks news
+  in_turn_of_all last news says files holds = subst (λ (l : List D). AreReadInTurn last files l news) (sym parts) (says files (subst (λ (l : List D). AllZip (Holds ghosts) l files) parts holds))
+
+  -- The first disk is asked for its length.
+  pub first_asked : (new : D) (files : List (List ℕ)) → AreAsked files disks (new ∷ rest)
+  first_asked new files = subst (λ (l : List D). AreAsked files l (new ∷ rest)) (sym parts) asks
+
+  -- It has no bytes.
+  module _ (len : ℕ) (no_bytes : len ≡ 0) (long : IfSome (content_of (ghosts.told disk)) (λ file. len ≡ length file)) where
+    no_content : (file : List ℕ) → Holds ghosts disk file → file ≡ []
+    no_content file holds =
+        let is : len ≡ length file = held ghosts disk (ghosts.told disk) file (λ l. len ≡ length l) refl holds long in
+        nil_from_length file (sym is ∙ no_bytes)
+
+    pub first_empty : rest ≡ [] → (files : List (List ℕ)) → AllZip (Holds ghosts) disks files → AreEmpty files
+    first_empty only = by_files AreEmpty (λ file files first others. (no_content file first, subst AreEmpty (sym (no_files ghosts rest files only others)) tt))
+
+    pub more_empty : ((files : List (List ℕ)) → AllZip (Holds ghosts) rest files → AreEmpty files) → (files : List (List ℕ)) → AllZip (Holds ghosts) disks files → AreEmpty files
+    more_empty more = by_files AreEmpty (λ file files first others. (no_content file first, more files others))
+
+    pub more_asked : (new : D) (news : List D) → ((files : List (List ℕ)) → AllZip (Holds ghosts) rest files → AreAsked files rest news)
+        → (files : List (List ℕ)) → AllZip (Holds ghosts) disks files → AreAsked files disks (new ∷ news)
+    more_asked new news more = by_files (λ files. AreAsked files disks (new ∷ news)) (λ file files first others.
+        subst (λ (l : List ℕ). AreAsked (l ∷ files) disks (new ∷ news)) (sym (no_content file first))
+        (subst (λ (l : List D). AreAsked ([] ∷ files) l (new ∷ news)) (sym parts) (asks_on (more files others))))
+
   module _ (log : ℕ) (before kept : Kept) (end : End) (has : IfSome (content_of (ghosts.told disk)) (λ file. HasKept plain_log file before kept end)) where
     has_kept : (file : List ℕ) → Holds ghosts disk file → HasKept plain_log file before kept end
     has_kept file holds = held ghosts disk (ghosts.told disk) file (λ l. HasKept plain_log l before kept end) refl holds has
@@ -165,6 +193,14 @@ module _ {D : Type 0} (ghosts : Ghosts D) (disks : List D) (disk : D) (rest : Li
       all_read_on new news more = by_files (λ files. AreReadInTurn before.last files disks (new ∷ news)) (λ file files first others.
           subst (λ (l : List D). AreReadInTurn before.last (file ∷ files) l (new ∷ news)) (sym parts)
           (reads_on_in files file log before kept end (has_kept file first) clean disk new rest news (more files others)))
+
+      -- The other disks are asked.
+      pub all_asked : (new : D) (news : List D) → ((files : List (List ℕ)) → AllZip (Holds ghosts) rest files → AreAsked files rest news)
+          → (files : List (List ℕ)) → AllZip (Holds ghosts) disks files → AreReadInTurn before.last files disks (new ∷ news)
+      all_asked new news asked = by_files (λ files. AreReadInTurn before.last files disks (new ∷ news)) (λ file files first others.
+          let has = has_kept file first in
+          subst (λ (l : List D). AreReadInTurn before.last (file ∷ files) l (new ∷ news)) (sym parts)
+          (asked_after before.last file files has.recovered disk new rest news has.is (sym has.why ∙ clean) (asked files others)))
 
   pub all_accepted_on : {E : Type 0} (log : ℕ) (mode : Mode) (r : Result RecoveredMany E) → ((files : List (List ℕ)) → AllZip (Holds ghosts) rest files → IfOk r (λ s. AcceptFrom (log + 1) mode files s.log s.end.at s.end.why))
       → (files : List (List ℕ)) → AllZip (Holds ghosts) disks files → IfOk r (λ s. AcceptFrom log mode files s.log s.end.at s.end.why)

@@ -40,6 +40,11 @@ pub record HasKept (number : Option ℕ) (file : List ℕ) (before kept : Kept) 
   pub at : end.at ≡ recovered.at
   pub why : end.why ≡ recovered.why
 
+-- what recovery of a file had kept, with this end, is now all that it keeps, with that end
+abbrev pub StillHasKept : Option ℕ → List ℕ → Kept → End → Kept → End → Type 0
+StillHasKept number file old end new now =
+    (before : Kept) → HasKept number file before old end → HasKept number file before new now
+
 -- The last sequence is no greater than the greatest one. Where it is 0 there are no keys, since each record but log
 -- data takes a sequence. This holds whether the disk tells its content or not.
 pub record IsNumbered (map : Pairs) (last : ℕ) : Type 0 where

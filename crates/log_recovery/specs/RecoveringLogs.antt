@@ -1,6 +1,6 @@
 -- What recovery of several logs answers.
-use Rattle.std.specs.Prelude.{◌≡◌, ◌≢◌, ℕ, ◌+◌, List, ◌∷◌, ◌++◌, length, map, fold, Some, ⊤}
-use Rattle.std.specs.List.{AllZip}
+use Rattle.std.specs.Prelude.{◌≡◌, ◌≢◌, ℕ, ◌+◌, List, [], ◌∷◌, ◌++◌, length, map, fold, Some, ⊤}
+use Rattle.std.specs.List.{AllByRecursion, AllZip}
 use Rattle.base_devices.specs.Faults.{Rose, count_in_all}
 use Rattle.model_base.specs.declared.log.EndReason.{EndReason}
 use Rattle.model_base.specs.declared.log.EndReason.TheVariants.{Clean}
@@ -102,6 +102,18 @@ pub data AreReadInTurn {D : Type 0} : ℕ → List (List ℕ) → List D → Lis
       → IsRecoveredAfter last plain_log file r → r.why ≡ Clean
       → AreReadInTurn (last_sequence last r.batches) files olds news
       → AreReadInTurn last (file ∷ files) (old ∷ olds) (new ∷ news)
+
+-- none of these files has bytes
+abbrev pub AreEmpty : List (List ℕ) → Type 0
+AreEmpty files = AllByRecursion (λ file. file ≡ []) files
+
+-- Some of these disks, which hold these files, were asked for their lengths in order: each only where the one before it
+-- has no bytes. The others are as they were.
+pub data AreAsked {D : Type 0} : List (List ℕ) → List D → List D → Type 0 where
+  none : {files : List (List ℕ)} {disks : List D} → AreAsked files disks disks
+  asks : {files : List (List ℕ)} {old new : D} {disks : List D} → AreAsked files (old ∷ disks) (new ∷ disks)
+  asks_on : {files : List (List ℕ)} {old new : D} {olds news : List D}
+      → AreAsked files olds news → AreAsked ([] ∷ files) (old ∷ olds) (new ∷ news)
 
 -- the disks have counted no fault
 abbrev pub CountNone : {D : Type 0} → (D → ℕ) → List D → List D → Type 0

@@ -83,7 +83,7 @@ pub fn updates_from<R: ReadAt>(
 }
 
 /// A reader that begins at this place.
-fn reader_from<R: ReadAt>(
+pub(crate) fn reader_from<R: ReadAt>(
     alloc: Global,
     number: Option<u32>,
     at: u64,

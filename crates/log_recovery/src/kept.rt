@@ -1,9 +1,8 @@
 //! The records that recovery keeps.
 
-ghost use Rattle.std.specs.Prelude.{◌≡◌, ◌==◌, ◌+◌, ◌-◌, ℕ, List, [], OnOk, IfOk, MatchOption, if◌then◌else◌};
+ghost use Rattle.std.specs.Prelude.{◌≡◌, ◌==◌, ◌+◌, ◌-◌, ℕ, List, [], IfOk, MatchOption, if◌then◌else◌};
 ghost use Rattle.model_base.specs.Batch.{IsBatchError};
 ghost use Rattle.model_base.specs.Recovery.{RecordEnds};
-ghost use Rattle.model_base.specs.Map.{after_records};
 ghost use Rattle.log_recovery.specs.Keeping.{Adds, Refuses, MayRun, IsRunEnd};
 
 use base_maps::FamilyMap;

@@ -1,9 +1,10 @@
 //! Recovery, record by record.
 
-ghost use Rattle.std.specs.Prelude.{◌≡◌, ◌≤◌, IfOk, IfErr, IfSome, OnOk};
+ghost use Rattle.std.specs.Prelude.{◌≡◌, IfOk, IfErr, IfSome, None, OnOk};
 ghost use Rattle.log_recovery.specs.declared.modes.Mode.TheVariants.{Point};
 ghost use Rattle.log_recovery.specs.Modes.{Accepts, TellsDamage};
 ghost use Rattle.log_recovery.specs.Recovering.{HasKept, HasRecovered, IsNumbered, IsOfFirstLog, IsRecoverError};
+ghost use Rattle.log_recovery.specs.Reading.{KeepsAllRead};
 
 use crate::kept::{GroupNote, Kept};
 use crate::modes::{Mode, accepts};
@@ -96,8 +97,25 @@ pub(crate) fn keep_log<R: ReadAt>(
     ensures error { IfErr result (IsRecoverError Point (R.failures disk.old) (R.failures disk.new)) }
     ensures disk { R.only_reads disk.old disk.new }
 {
-    let mut log = LogReader::open(alloc, number)?;
+    let log = LogReader::open(alloc, number)?;
     kept.end = 0;
+    keep_records(log, disk, kept)
+}
+
+/// Keeps the records that this reader reads of the log that a disk holds, after what was kept before, and answers where
+/// recovery of the log ends. Where this fails, what is kept is of no use.
+pub(crate) fn keep_records<R: ReadAt>(
+    mut log: LogReader,
+    disk: &mut R,
+    kept: &mut Kept,
+) -> Result<End, RecoverError>
+    requires going { log.stopped ≡ None }
+    ensures recovered { IfSome (R.held disk.old) (λ file. IfOk result (KeepsAllRead file kept.old log kept.new)) }
+    ensures numbered { OnOk result (IsNumbered kept.old.map kept.old.last → IsNumbered kept.new.map kept.new.last) }
+    ensures worked { OnOk result (R.failures disk.new ≡ R.failures disk.old) }
+    ensures error { IfErr result (IsRecoverError Point (R.failures disk.old) (R.failures disk.new)) }
+    ensures disk { R.only_reads disk.old disk.new }
+{
     // All records before the reader's place are kept, and their runs rise.
     loop {
         match log.next(disk) {

@@ -184,14 +184,16 @@ fn failing(
     Ok((found, disks[1].faults()))
 }
 
-// A log of one record is read by two calls. In the first row recovery ends in the first log, and in the last one that
-// log's disk fails: the second disk, whose first call would fail, isn't asked.
-const FAILING: [(usize, &[u64], &[u64], Result<Summary, RecoverError>, u64); 5] = [
+// A log of one record is read by two calls. In the first row recovery ends in the first log, and in the fifth one that
+// log's disk fails: the second disk, whose first call would fail, isn't asked. In the last row the first disk fails as it
+// is asked for its length again, once the second one has bytes: that one isn't read, though it would fail.
+const FAILING: [(usize, &[u64], &[u64], Result<Summary, RecoverError>, u64); 6] = [
     (23, &[], &[1], Ok((0, 0, 1, 0, 0, BAD_LENGTH)), 0),
     (24, &[], &[1], Err(RecoverError::Fault { count: 1 }), 1),
     (24, &[], &[2], Err(RecoverError::Fault { count: 1 }), 1),
     (24, &[1], &[1], Err(RecoverError::Fault { count: 2 }), 1),
     (24, &[2], &[1], Err(RecoverError::Fault { count: 1 }), 0),
+    (24, &[4], &[2], Err(RecoverError::Fault { count: 1 }), 0),
 ];
 
 #[test]

@@ -7,7 +7,7 @@ use crate::object::Object;
 use std::alloc::Global;
 
 /// The number of the library's version, the same as that of its header.
-const VERSION: u32 = 7;
+const VERSION: u32 = 8;
 
 /// A handle, which holds an object or nothing. Zeros are a handle that holds nothing.
 ///
@@ -103,7 +103,7 @@ fn crossing<T: Send>(it: T) -> T
 /// The library's version.
 #[unsafe(no_mangle)]
 pub extern "C" fn wz_version() -> u32
-    ensures { result ≡ 7 }
+    ensures { result ≡ 8 }
 {
     VERSION
 }

@@ -2,10 +2,14 @@
 //! opens the log for reading, takes no lock, and changes nothing.
 #![tactic(auto)]
 
+mod output;
+
 use base_devices::{FileDisk, RealClock, Sink, StdSink};
 use list_call::{Status, Watched, say, say_after, show_log};
 use list_words::{Invocation, WordsError, read_words};
+use output::Output;
 use std::alloc::AllocError;
+use std::cell::Cell;
 use std::io::{self, ErrorKind, IsTerminal};
 use std::process::ExitCode;
 use std::{env, fs};
@@ -42,13 +46,17 @@ fn show<E: Sink>(
         false => None,
     };
     let mut file = Watched::new(disk, RealClock::new(rt), terminal, len_of(rt, path));
-    let mut sink = StdSink::new(rt);
+    let is_closed = Cell::new(false);
+    let mut sink = StdSink::new(Output::new(rt, &is_closed));
+    let page = page(rt)?;
     let answer = show_log(rt.alloc(), asked, &mut file, &mut sink, errors);
     file.clear();
-    say_after(answer, &mut file, errors);
+    say_after(answer, &page, &mut file, errors);
     match answer.status {
         Status::Disk => say(errors, why_not(rt, path)),
-        Status::Sink => say(errors, "standard output failed, or its reader has ended"),
+        // The usual end of `| head` needs no word.
+        Status::Sink if is_closed.get() => {}
+        Status::Sink => say(errors, "standard output failed"),
         Status::Memory => say(errors, "out of memory"),
         Status::Done | Status::Words | Status::Damage => {}
     }
@@ -72,6 +80,21 @@ fn len_of(rt: &HostRuntime, path: &str) -> u64 {
     }
 }
 
+/// Where the page is that says more of an end: in the folder that WOLZENN_PAGES names, or in `docs`, if it is there.
+/// Otherwise this is its name.
+fn page(rt: &HostRuntime) -> Result<String, AllocError> {
+    match env::var(rt, "WOLZENN_PAGES") {
+        Ok(folder) if !folder.is_empty() => format!(in rt.alloc(); "{folder}/RECOVERY.md"),
+        _ => String::from_str(
+            rt.alloc(),
+            match fs::metadata(rt, "docs/RECOVERY.md") {
+                Ok(_) => "docs/RECOVERY.md",
+                Err(_) => "RECOVERY",
+            },
+        ),
+    }
+}
+
 /// Why the file can't be read, as far as that can be seen afterwards.
 fn why_not(rt: &HostRuntime, path: &str) -> &'static str {
     match fs::metadata(rt, path) {
@@ -91,19 +114,17 @@ fn why_not(rt: &HostRuntime, path: &str) -> &'static str {
     }
 }
 
-/// Says why the words ask for nothing: clap's own sentences, or its help, which isn't a refusal.
+/// Says why the words ask for nothing: clap's own sentences, or its help, which isn't a refusal. Only help goes to
+/// standard output. If a sentence can't be said, that changes no status.
 fn refuse<E: Sink>(rt: &HostRuntime, why: WordsError, errors: &mut E) -> ExitCode {
     match why {
         WordsError::Refused(error) => {
-            let status = if error.use_stderr() {
-                Status::Words
-            } else {
-                Status::Done
+            let status = match error.print(rt) {
+                _ if error.use_stderr() => Status::Words,
+                Ok(()) => Status::Done,
+                Err(_) => Status::Sink,
             };
-            match error.print(rt) {
-                Ok(()) => ExitCode::from(status.code()),
-                Err(_) => ExitCode::from(Status::Sink.code()),
-            }
+            ExitCode::from(status.code())
         }
         WordsError::NoMode => {
             say(errors, "--mode is point, tail or absolute");

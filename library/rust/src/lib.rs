@@ -20,6 +20,9 @@
 //! (RocksDB's `recycle_log_file_num`), and `None` where they have none, as in LevelDB's logs and most of RocksDB's.
 //!
 //! A reader, a scan, a recovery and a batch may go to another thread, but not be shared by threads.
+//!
+//! A call panics if the archive that was linked is of another version than this crate: that is a mistake of the build,
+//! and nothing would be right after it.
 
 #![deny(unsafe_code)]
 #![warn(missing_docs)]
@@ -41,6 +44,11 @@ pub use reading::{Record, Records};
 pub use recovery::{recover, Mode, Pair, Pairs, Place, Recovery};
 pub use scanning::{Scan, Scanned, Unread};
 pub use writing::LogWriter;
+
+/// Whether the archive that was linked was built of sources that had been proved on the machine that built it.
+pub fn is_proved() -> bool {
+    raw::is_proved()
+}
 
 /// The bytes of a log's block.
 pub const BLOCK_LEN: usize = 32_768;

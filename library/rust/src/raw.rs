@@ -6,6 +6,9 @@ use std::ffi::c_void;
 use std::fmt;
 use std::num::NonZeroU32;
 
+/// The version of the library that this crate is for: `WZ_VERSION` of its header.
+const VERSION: u32 = 8;
+
 // As in library/wolzenn.h, which says what each code means.
 const DONE: u32 = 0;
 const NO_MEMORY: u32 = 1;
@@ -111,6 +114,8 @@ struct RawOperation {
 }
 
 extern "C" {
+    fn wz_version() -> u32;
+    fn wz_is_proved() -> bool;
     fn wz_close(handle: *mut RawHandle);
     fn wz_crc32c(bytes: *const u8, len: usize) -> u32;
     fn wz_crc32c_extend(crc: u32, bytes: *const u8, len: usize) -> u32;
@@ -227,6 +232,18 @@ extern "C" {
     ) -> u32;
 }
 
+/// Panics where the archive that was linked is of another version: there the structs above may have another layout. So
+/// it comes before each call, except for those with a handle, which was made after it.
+fn check_version() {
+    // SAFETY: it takes nothing, and is the same in each version.
+    let found = unsafe { wz_version() };
+    assert!(
+        found == VERSION,
+        "the crate wolzenn is for version {VERSION} of libwolzenn.a, and version {found} was linked: run library/build \
+         of the crate's own repository, or set WOLZENN_LIB to a folder with that version"
+    );
+}
+
 /// Compares an answer that only a fault of the library could make another one.
 fn wanted(code: u32, wanted: u32) {
     assert_eq!(code, wanted, "an answer of the library");
@@ -334,6 +351,7 @@ impl Drop for Handle {
 impl Handle {
     /// A handle that holds nothing.
     fn empty() -> Handle {
+        check_version();
         Handle { raw: UnsafeCell::new(RawHandle { full: false, at: std::ptr::null_mut() }) }
     }
 
@@ -566,22 +584,32 @@ impl Handle {
     }
 }
 
+pub(crate) fn is_proved() -> bool {
+    check_version();
+    // SAFETY: it takes nothing.
+    unsafe { wz_is_proved() }
+}
+
 pub(crate) fn crc32c(bytes: &[u8]) -> u32 {
+    check_version();
     // SAFETY: the slice is that many bytes.
     unsafe { wz_crc32c(bytes.as_ptr(), bytes.len()) }
 }
 
 pub(crate) fn crc32c_extend(crc: u32, bytes: &[u8]) -> u32 {
+    check_version();
     // SAFETY: the slice is that many bytes.
     unsafe { wz_crc32c_extend(crc, bytes.as_ptr(), bytes.len()) }
 }
 
 pub(crate) fn crc32c_mask(crc: u32) -> u32 {
+    check_version();
     // SAFETY: it takes a number, any one.
     unsafe { wz_crc32c_mask(crc) }
 }
 
 pub(crate) fn read_batch(bytes: &[u8]) -> Result<BatchHead, Error> {
+    check_version();
     let (mut head, mut why) = (RawBatchHead::default(), RawEnd::default());
     // SAFETY: the slice is that many bytes, and the two are ours alone.
     let code = unsafe { wz_batch_read(bytes.as_ptr(), bytes.len(), &mut head, &mut why) };
@@ -594,6 +622,7 @@ pub(crate) fn read_batch(bytes: &[u8]) -> Result<BatchHead, Error> {
 
 /// What a batch's header says, if there are as many bytes.
 pub(crate) fn batch_head(bytes: &[u8]) -> Option<BatchHead> {
+    check_version();
     let mut head = RawBatchHead::default();
     // SAFETY: the slice is that many bytes, and the head is ours alone.
     let code = unsafe { wz_batch_read_head(bytes.as_ptr(), bytes.len(), &mut head) };
@@ -606,6 +635,7 @@ pub(crate) fn batch_head(bytes: &[u8]) -> Option<BatchHead> {
 
 /// Moves a place of a log on, and answers where recovery ends.
 pub(crate) fn recover_place(log: &[u8], number: Option<NonZeroU32>, place: &mut Place) -> Result<End, Error> {
+    check_version();
     let (mut raw, mut end) = (RawPlace { at: place.at, last: place.last }, RawEnd::default());
     // SAFETY: the slice is that many bytes, and the two are ours alone.
     let code = unsafe { wz_recover_place(number_of(number), log.as_ptr(), log.len(), &mut raw, &mut end) };
@@ -641,6 +671,7 @@ fn no_step<T>(code: u32, why: &RawEnd) -> Option<Step<T>> {
 }
 
 pub(crate) fn next_operation(bytes: &[u8], mut at: usize) -> Step<Operation<'_>> {
+    check_version();
     let (mut found, mut why) = (RawOperation::default(), RawEnd::default());
     // SAFETY: the slice is that many bytes, and the three are ours alone.
     let code = unsafe { wz_operation_next(bytes.as_ptr(), bytes.len(), &mut at, &mut found, &mut why) };
@@ -660,6 +691,7 @@ pub(crate) fn next_operation(bytes: &[u8], mut at: usize) -> Step<Operation<'_>>
 }
 
 pub(crate) fn next_op(bytes: &[u8], mut at: usize) -> Step<Op<'_>> {
+    check_version();
     let (mut op, mut why) = (RawOp::default(), RawEnd::default());
     // SAFETY: the slice is that many bytes, and the three are ours alone.
     let code = unsafe { wz_batch_next(bytes.as_ptr(), bytes.len(), &mut at, &mut op, &mut why) };
@@ -682,12 +714,14 @@ pub(crate) fn next_op(bytes: &[u8], mut at: usize) -> Step<Op<'_>> {
 }
 
 pub(crate) fn record_len(number: Option<NonZeroU32>, offset: u64, len: usize) -> usize {
+    check_version();
     // SAFETY: it takes numbers, any ones.
     unsafe { wz_log_record_len(number_of(number), offset, len) }
 }
 
 /// Puts a record's bytes of the log into a buffer, which has as many.
 pub(crate) fn record_text(number: Option<NonZeroU32>, offset: u64, record: &[u8], buffer: &mut [u8]) {
+    check_version();
     let mut len = 0;
     // SAFETY: the record is shared and the buffer is the caller's alone, so that they don't overlap.
     let code = unsafe {

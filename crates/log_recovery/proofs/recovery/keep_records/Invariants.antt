@@ -1,17 +1,14 @@
 use Rattle.std.proofs.Common.{◌≡◌, ◌-◌, ◌^◌, None, IfSome}
-use Rattle.log_reader.specs.Reader.{Follows}
-use Rattle.log_recovery.specs.Keeping.{KeepsFront}
 use Rattle.log_recovery.specs.Recovering.{IsNumbered}
-use Rattle.log_recovery.proofs.recovery.keep_log.Given as goal
+use Rattle.log_recovery.proofs.Telling.{SoFar}
+use Rattle.log_recovery.proofs.recovery.keep_records.Given as goal
 
--- the records before the reader's place are kept
+-- the records before the reader's place are kept, if those before its first place were
 abbrev pub invariant-loop-start : goal.invariant-loop-start
 invariant-loop-start g l = record {
-  place : l.kept.end ≡ l.log.place;
-  number : l.log.number ≡ l.fn.number;
+  number : l.log.number ≡ l.fn.log.number;
   going : l.log.stopped ≡ None;
-  follows : IfSome (g.R.ReadAt.held l.fn.disk) (λ d. Follows d l.log);
-  front : IfSome (g.R.ReadAt.held l.fn.disk) (λ d. KeepsFront l.fn.number d l.fn.kept l.kept);
+  so_far : IfSome (g.R.ReadAt.held l.fn.disk) (SoFar l.fn.kept l.fn.log l.kept l.log);
   numbered : IsNumbered l.fn.kept.map l.fn.kept.last → IsNumbered l.kept.map l.kept.last;
   worked : g.R.ReadAt.failures l.disk ≡ g.R.ReadAt.failures l.fn.disk;
   disk : g.R.ReadAt.only_reads l.fn.disk l.disk;
