@@ -39,8 +39,9 @@ pub fn a_list_is_a_front()
 /// has fragments that read, and the last of them are the record's. Of a compressed log nothing is shown.
 pub fn whole_records_are_found()
     ensures { (number : Option ℕ) (file : List ℕ) (scan : Scan) (block : ℕ) (before fragments : List Fragment)
-        → IsScan number true file scan → is_compressed file ≡ false → HasFragments number file (32768 * block) (before ++ fragments)
-        → AreOneRecord (kinds_of fragments) → (front rest : List Item) × (scan.items ≡ front ++ whole
+        → IsScan number true file scan → is_compressed file ≡ false
+        → HasFragments number file (32768 * block) (before ++ fragments) → AreOneRecord (kinds_of fragments)
+        → (front rest : List Item) × (scan.items ≡ front ++ whole
         (next_place number (end_of number (32768 * block) before))
         (end_of number (32768 * block) (before ++ fragments)) (record_of fragments) ∷ rest) }
 {}
@@ -64,8 +65,8 @@ pub fn whole_records_are_found_from_a_place()
     // file's start, the log isn't a compressed one.
     ensures in_block_order { (number : Option ℕ) (file : List ℕ) (from : ℕ) (scan : Scan) (block : ℕ)
         (before fragments : List Fragment) → IsScanFrom number true file from scan → PassesStart file from
-        → from ≤ 32768 * block → HasFragments number file (32768 * block) (before ++ fragments) → AreOneRecord (kinds_of fragments)
-        → HasRecord number (32768 * block) before fragments scan.items }
+        → from ≤ 32768 * block → HasFragments number file (32768 * block) (before ++ fragments)
+        → AreOneRecord (kinds_of fragments) → HasRecord number (32768 * block) before fragments scan.items }
 {}
 
 /// A new scan goes on where an earlier one found its last record, also if the log has grown since.
