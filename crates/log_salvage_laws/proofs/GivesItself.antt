@@ -1,9 +1,9 @@
 -- All records of a log without damage are found, one after another.
-use Rattle.std.proofs.Common.{◌≡◌, ℕ, ◌+◌, ◌≤◌, true, List, [], ◌∷◌, ◌++◌, length, drop, map, Option, Some, None, refl, sym, ◌∙◌, ap, subst, append-nil, length-append, arith}
+use Rattle.std.proofs.Common.{◌≡◌, ℕ, ◌≤◌, true, List, [], ◌∷◌, ◌++◌, length, drop, map, Option, None, refl, sym, ◌∙◌, ap, subst, append-nil, length-append, arith}
 use Rattle.std.specs.List.{AllByRecursion}
 use Rattle.model_base.specs.declared.log.EndReason.TheVariants as ends
 use Rattle.model_base.specs.Log.{AreOneRecord, Fragment, SpellsWhole, all_fragments, fragments_text, kinds_of, next_place, record_of}
-use Rattle.model_base.specs.Reading.{HasFragments, IsRecord, Next, ReadsThenSees, ReadingEnds, Seen, behind_zeros, clean, end_of, next_seen, nothing}
+use Rattle.model_base.specs.Reading.{HasFragments, Next, ReadingEnds, Seen, behind_zeros, clean, end_of, next_seen, nothing}
 use Rattle.log_laws.proofs.Placed.{end_none, placed_append}
 use Rattle.log_laws.proofs.ReadSynced.{stand_behind}
 use Rattle.log_recovery_laws.proofs.Spelled.{stand_front}
