@@ -13,13 +13,12 @@ use Rattle.list_log.proofs.Joined.{finds_join}
 use Rattle.list_log.proofs.Stepped.{finds_one}
 use Rattle.log_salvage.specs.Counting.{AreCounts, no_counts, with_record, with_skipped, with_step, with_unread, with_verdict}
 use Rattle.log_salvage.specs.Keeping.{AreKept, HasVerdict, no_records, with_kept, with_left_out, with_stretch}
-use Rattle.log_salvage.specs.NewLogs.{Adds, IsAddError, NewLogState, longer, text_of}
+use Rattle.log_salvage.specs.NewLogs.{NewLogState, longer, text_of}
 use Rattle.log_salvage.specs.Salvaging.{AddsAll, AnswersSalvage, AreFound, Source, Written, ended, text_of_all}
 use Rattle.log_salvage.specs.Steps.{AddsUnless, FindsStep, HasCauses, WhereItGoesOn, WritesStep}
 use Rattle.log_salvage.specs.declared.counts.Counts.{Counts}
 use Rattle.log_salvage.specs.declared.keeping.LeftOut.{LeftOut}
 use Rattle.log_salvage.specs.declared.keeping.Range.{Range}
-use Rattle.log_salvage.specs.declared.new_log.AddError.TheVariants as failed
 use Rattle.log_salvage.specs.declared.salvaged.Salvaged.{Salvaged}
 use Rattle.log_salvage.specs.declared.salvaged.Salvaged.TheVariants as salvaged
 use Rattle.log_salvage.specs.declared.salvaging.Step.{Step}

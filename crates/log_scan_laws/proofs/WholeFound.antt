@@ -19,7 +19,7 @@ use Rattle.log_recovery_laws.proofs.SeenFragment.{fragment_is}
 use Rattle.log_recovery_laws.proofs.Reading.{stand_more, record_long}
 use Rattle.log_recovery_laws.proofs.OneReading.{one_record, no_end}
 use Rattle.log_scan.specs.declared.scanner.Lost.{Lost}
-use Rattle.log_scan.specs.Resuming.{fragment_len, begins_record, there, after_damage, after_misplaced, sets_compression, is_compressed}
+use Rattle.log_scan.specs.Resuming.{fragment_len, begins_record, there, after_damage, after_misplaced, is_compressed}
 use Rattle.log_scan.specs.Scanning.{Item, whole, unread, Scan, IsScan, items_with, later_place}
 use Rattle.log_scan.proofs.Places.{some_header, seen_there, kind_there, type_there, type_in_front, length_in_front, next_after}
 use Rattle.log_scan.proofs.Later.{end_later, is_later}

@@ -1,6 +1,5 @@
 -- One step after another, and the step that ends it.
-use Rattle.std.proofs.Common.{◌≡◌, List, [], Option, Some, None, refl, sym, ◌∙◌, ap, append-nil}
-use Rattle.std.specs.Io.KnownBytes.{Appends}
+use Rattle.std.proofs.Common.{◌≡◌, None, refl, sym, ◌∙◌}
 use Rattle.log_scan.specs.Scanner.{IsAt, IsGoing}
 use Rattle.log_salvage.specs.Salvaging.{ended}
 use Rattle.log_salvage.proofs.Whole.{at_told, end_told, goes, if_all, no_bytes, no_room_told, none_told, on_told, uncaused, written}
