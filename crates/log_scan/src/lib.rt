@@ -1,8 +1,8 @@
 //! Reading a log on after damage: which records are there, also after what doesn't read.
 //!
-//! `log_reader` ends at the first thing that can't be read, and recovery keeps to that. Here the same reader is opened
-//! anew at a later place: where the damaged fragment should end, or at the next block. What it finds there is shown to
-//! a person, and nothing is recovered from it: what follows damage may be of another history.
+//! `log_reader` ends at the first thing that can't be read, and recovery keeps to that. Here the same reader goes to a
+//! later place: where the damaged fragment should end, or the next block. What it finds there is shown to a person, and
+//! nothing is recovered from it: what follows damage may be of another history. A compressed log is read no further.
 //!
 //! - `scanner`: the records, one after another, and what doesn't read between them
 //! - `resuming`: where reading is tried again

@@ -110,8 +110,8 @@ fn place_after<R: ReadAt>(
     }
 }
 
-/// Where reading goes on after a fragment in a wrong place, at the front of these bytes: with it, if it begins a record,
-/// and after it otherwise. Such a fragment is whole.
+/// Where reading goes on after a fragment in a wrong place, at the front of these bytes: with it, if it begins a
+/// record, and after it otherwise. Such a fragment is whole.
 fn after_misplaced(number: Option<u32>, rest: &[u8], place: u64) -> Option<u64>
     requires small { place + length rest.now < 2 ^ 63 }
     ensures place { (kind : Kind) → type_field rest.now ≡ kind_code number kind
