@@ -17,31 +17,38 @@ impl<'a, R> Output<'a, R> {
         Output { runtime, is_closed }
     }
 
-    /// What a write answered, which is looked at.
-    fn looked_at<T>(&self, written: io::Result<T>) -> io::Result<T> {
-        if let Err(error) = &written {
+    /// Notes it if this is what such a write answered.
+    fn look_at<T>(&self, written: &io::Result<T>) {
+        if let Err(error) = written {
             if error.kind() == ErrorKind::BrokenPipe {
                 self.is_closed.set(true);
             }
         }
-        written
     }
 }
 
 impl<R: Print> Print for Output<'_, R> {
     fn print<D: Display + Drop>(&self, value: D) -> io::Result<()> {
-        self.looked_at(self.runtime.print(value))
+        let written = self.runtime.print(value);
+        self.look_at(&written);
+        written
     }
 
     fn println<D: Display + Drop>(&self, value: D) -> io::Result<()> {
-        self.looked_at(self.runtime.println(value))
+        let written = self.runtime.println(value);
+        self.look_at(&written);
+        written
     }
 
     fn write_all(&self, bytes: &[u8]) -> io::Result<()> {
-        self.looked_at(self.runtime.write_all(bytes))
+        let written = self.runtime.write_all(bytes);
+        self.look_at(&written);
+        written
     }
 
     fn write_some(&self, bytes: &[u8]) -> io::Result<usize> {
-        self.looked_at(self.runtime.write_some(bytes))
+        let written = self.runtime.write_some(bytes);
+        self.look_at(&written);
+        written
     }
 }
