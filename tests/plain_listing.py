@@ -7,8 +7,8 @@ plain `wzlog`: `python3 tests/plain_listing.py list LOG --text`. It says nothing
 import argparse
 import sys
 
-from plain_log import BLOCK, FIRST, FULL, LAST, End, NoBatch, accepts, fragment_at, header_len, length_at, number_of
-from plain_log import recover_into
+from plain_log import BLOCK, FIRST, FULL, LAST, End, NoBatch, accepts, fragment_at, fragment_of_code, header_len
+from plain_log import length_at, number_of, recover_into
 
 # The tags: the word, whether a family is named, how many strings follow, and whether the operation takes a sequence.
 TAGS = {
@@ -122,10 +122,16 @@ def is_damaged(log, at, number):
     return False
 
 
+def is_compressed(log):
+    """Whether the first fragment is a whole one of kind 9 (RocksDB's `kSetCompressionType`), whose header has 7 bytes."""
+    end = 7 + number_of(log[4:6])
+    return 7 <= len(log) and end <= min(BLOCK, len(log)) and log[:end] == fragment_of_code(9, log[7:end])
+
+
 def resumes_at(log, at, why, number):
     """Where reading is tried again after it has ended, or None."""
     size, header = header_len(number), log[at : at + header_len(number)]
-    if why in ("clean", "unfinished"):
+    if why in ("clean", "unfinished") or (at == 0 and is_compressed(log)):
         return None
     if why == "badorder":
         kind = header[6] - (0 if number is None else 4)

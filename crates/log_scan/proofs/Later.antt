@@ -6,7 +6,7 @@ use Rattle.model_base.specs.Reading.{fragment, damage, kind_of_code, type_field,
 use Rattle.log_laws.proofs.Placed.{end_more}
 use Rattle.log_scan.specs.Resuming.{fragment_len, begins_record, after_damage, after_misplaced}
 use Rattle.log_scan.specs.Scanning.{later_place}
-use Rattle.log_scan.proofs.Places.{some_header, place_there, after_damage_later, next_after, seen_there, kind_there}
+use Rattle.log_scan.proofs.Places.{some_header, place_there, resumes_there, after_damage_later, next_after, seen_there, kind_there}
 
 -- one fragment that begins a record is begun, or is a whole one
 not_alone : (k : Kind) → begins_record (Some k) ≡ true → (AreBegun (k ∷ []) → ⊥) → (AreOneRecord (k ∷ []) → ⊥) → ⊥
@@ -45,7 +45,7 @@ is_later number false file here at next why end again = absurd (cc)
 is_later number true file here at next why (clean c) again = absurd (cc)
 is_later number true file here at next why (unfinished f fs c) again = absurd (cc)
 is_later number true file here at next why (broken {d = d} fs c) again =
-    let is = place_there file (after_damage number file at) next again in
+    let is = place_there file (after_damage number file at) next (resumes_there number file at next d again).1 in
     (omega (arith, is.0, after_damage_later number file at, next_after number file (end_of number here fs) at (damage d) c.is_next), is.1)
 is_later number true file here at next why (bad_order {f = f} fs c not_begun not_one) again =
     let is = place_there file (after_misplaced number file at) next again in

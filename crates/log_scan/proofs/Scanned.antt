@@ -1,5 +1,5 @@
 -- What a call of a scanner answers, where the disk tells its content.
-use Rattle.std.proofs.Common.{◌≡◌, ℕ, ◌≤◌, List, length, Option, Some, None, refl, sym, ◌∙◌, subst, arith}
+use Rattle.std.proofs.Common.{◌≡◌, ℕ, List, Option, Some, None, refl, sym, ◌∙◌, subst}
 use Rattle.std.specs.Option.{unwrap_or}
 use Rattle.model_base.specs.Reading.{IsRecord, ReadingEnds}
 use Rattle.log_reader.specs.declared.reader.Next.{Next}
@@ -9,9 +9,8 @@ use Rattle.log_scan.specs.declared.scanner.Found.{Found}
 use Rattle.log_scan.specs.declared.scanner.Found.TheVariants as found
 use Rattle.log_scan.specs.declared.scanner.Lost.{Lost}
 use Rattle.log_scan.specs.declared.scanner.Unread.{Unread}
-use Rattle.log_scan.specs.Scanning.{not_skipped, first_end, later_place}
-use Rattle.log_scan.specs.Scanner.{ScannerState, AnswersScan, Begins, GoesTo, IsAt, IsGoing, Passes, WhereItGoesOn, unread_before}
-use Rattle.log_scan.proofs.Later.{is_later}
+use Rattle.log_scan.specs.Scanning.{not_skipped, first_end}
+use Rattle.log_scan.specs.Scanner.{ScannerState, AnswersScan, IsAt, IsGoing, Passes, WhereItGoesOn, unread_before}
 use Rattle.log_scan.proofs.Skipping.{skips_more, ends_there}
 
 -- the reader's answer is what reading the file from the scanner's place gives
@@ -67,15 +66,3 @@ passes_at file old new reader end (found.Record unread start place) number goes_
 pub first_is : (lost : Option Lost) (end first : Lost) → first ≡ unwrap_or lost end → first ≡ first_end lost end
 first_is None end first is = is
 first_is (Some lost) end first is = is
-
--- a new reader begins at a later place
-pub goes_on_there : (file : List ℕ) (old new : ScannerState) (place : ℕ) (first end : Lost) (result : Found) → ReadingEnds old.number file old.here end.at end.why
-    → later_place old.number old.goes_on file end.at end.why ≡ Some place → first ≡ first_end old.lost end → (place ≤ length file → GoesTo file old new place first result) → Passes file old new end result
-goes_on_there file old new place first end result ends later is goes = by_answer result (goes (omega (arith, (is_later old.number old.goes_on file old.here end.at place end.why ends later).1)))
-  where
-    by_answer : (r : Found) → GoesTo file old new place first r → Passes file old new end r
-    by_answer found.Passed begins = (place, later, subst (Begins file old new place) is begins)
-    by_answer (found.Record unread start stop) begins = absurd begins
-    by_answer (found.End at why) begins = absurd begins
-    by_answer (found.Fault count) begins = tt
-    by_answer found.NoMemory begins = tt

@@ -3,25 +3,17 @@
 --
 -- RocksDB's db/log_reader.cc drops the rest of a block at damage, and goes on in the next one. Here a fragment in the
 -- rest of the block is looked at too: it is one if its own checksum is right.
-use Rattle.std.specs.Prelude.{ℕ, ◌+◌, ◌&&◌, Bool, true, false, not, List, length, drop, nat_le, nat_lt, Option, Some, None, option_and_then, if◌then◌else◌}
+use Rattle.std.specs.Prelude.{ℕ, ◌+◌, ◌&&◌, ◌==◌, Bool, true, false, not, List, length, take, drop, nat_le, nat_lt, bytes_eq, Option, Some, None, option_and_then, if◌then◌else◌}
 use Rattle.model_base.specs.declared.log.EndReason.{EndReason}
 use Rattle.model_base.specs.declared.log.EndReason.TheVariants as ends
-use Rattle.model_base.specs.Log.{Kind, full, first, header_len, room}
+use Rattle.model_base.specs.Log.{Kind, full, first, header, header_len, room, plain_log}
+use Rattle.model_base.specs.Reading.{kind_of_code, length_field, type_field, part_field}
+use Rattle.log_reader.specs.Damaged.{is_damaged}
 use Rattle.log_scan.specs.Fronts.{first_number}
-use Rattle.model_base.specs.Reading.{Seen, fragment, nothing, damage, seen_at, kind_of_code, length_field, type_field}
 
 -- how long a fragment is, as the header in front of these bytes says
 abbrev pub fragment_len : Option ℕ → List ℕ → ℕ
 fragment_len number bytes = header_len number + length_field bytes
-
-abbrev pub is_damage : Seen → Bool
-is_damage (damage d) = true
-is_damage (fragment f) = false
-is_damage nothing = false
-
--- there is damage at this place of the file
-abbrev pub is_damaged : Option ℕ → List ℕ → ℕ → Bool
-is_damaged number file at = is_damage (seen_at number file at)
 
 -- this number, if a fragment reads with it at the file's start
 abbrev pub if_it_reads : List ℕ → ℕ → Option ℕ
@@ -63,8 +55,20 @@ after_damage number file at =
 abbrev pub there : List ℕ → ℕ → Option ℕ
 there file place = if nat_lt place (length file) then Some place else None
 
--- where reading of the file is tried again after it has ended at this place for this reason, if it is
+-- A log whose records are compressed begins with a fragment of type 9, kSetCompressionType of RocksDB's
+-- db/log_format.h. Its header has 7 bytes, also in a log with a number. These bytes begin with one: the header is right
+-- for the part after it. So neither a damaged type nor a part that is cut off is taken for it.
+abbrev pub sets_compression : List ℕ → Bool
+sets_compression bytes = bytes_eq (take 7 bytes) (header plain_log 9 (part_field plain_log bytes))
+
+-- the file's first block begins with such a fragment
+abbrev pub is_compressed : List ℕ → Bool
+is_compressed file = sets_compression (take 32768 file)
+
+-- where reading of the file is tried again after it has ended at this place for this reason, if it is; never after the
+-- first fragment of a compressed log, since what follows may look like fragments, and is none of a record as written
 abbrev pub resumes_at : Option ℕ → List ℕ → ℕ → EndReason → Option ℕ
 resumes_at number file at ends.BadOrder = there file (after_misplaced number file at)
-resumes_at number file at (ends.Broken d) = there file (after_damage number file at)
+resumes_at number file at (ends.Broken d) =
+    if at == 0 && is_compressed file then None else there file (after_damage number file at)
 resumes_at number file at _ = None

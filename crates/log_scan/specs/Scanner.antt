@@ -48,7 +48,7 @@ AnswersScan file old new (found.End at why) = Ends old.number old.goes_on file o
 AnswersScan file old new (found.Fault count) = ⊤
 AnswersScan file old new found.NoMemory = ⊤
 
--- a new reader begins at this place of the file
+-- the reader goes on at this place of the file
 pub record Begins (file : List ℕ) (old new : ScannerState) (place : ℕ) (first : Lost) : Type 0 where
   pub follows : Follows file new.reader
   pub there : new.reader.place ≡ place
@@ -56,13 +56,7 @@ pub record Begins (file : List ℕ) (old new : ScannerState) (place : ℕ) (firs
   pub lost : new.lost ≡ Some first
   pub place_is : new.place ≡ old.place
 
-abbrev pub GoesTo : List ℕ → ScannerState → ScannerState → ℕ → Lost → Found → Type 0
-GoesTo file old new place first found.Passed = Begins file old new place first
-GoesTo file old new place first (found.Fault count) = ⊤
-GoesTo file old new place first found.NoMemory = ⊤
-GoesTo file old new place first other = ⊥
-
--- reading on from `here` ended like this, and a new reader begins at a later place, or none does
+-- reading on from `here` ended like this, and is tried again at a later place, or isn't
 abbrev pub Passes : List ℕ → ScannerState → ScannerState → Lost → Found → Type 0
 Passes file old new end found.Passed = (place : ℕ)
     × (later_place old.number old.goes_on file end.at end.why ≡ Some place)

@@ -1,18 +1,15 @@
 //! The number that a log's first header has.
 
-ghost use Rattle.std.specs.Prelude.{◌≡◌, vec_len, IfOk, IfErr, IfSome, OnOk};
+ghost use Rattle.std.specs.Prelude.{◌≡◌, IfOk, IfErr, IfSome, OnOk};
 ghost use Rattle.base_devices.specs.Faults.{Rose};
 ghost use Rattle.log_reader.specs.Opens.{IsOpenError};
 ghost use Rattle.log_scan.specs.Fronts as fronts;
 ghost use Rattle.log_scan.specs.Resuming as resuming;
 
 use crate::front::read_front;
-use crate::resuming::is_damaged;
 use base_devices::ReadAt;
 use byteorder::{ByteOrder, LittleEndian};
-use log_block::BLOCK_LEN;
-use log_reader::OpenError;
-use model_base::NoMemory;
+use log_reader::{LogReader, OpenError};
 use std::alloc::Global;
 
 /// How many bytes a header with a number has.
@@ -61,17 +58,10 @@ fn number_if_it_reads<R: ReadAt>(
     ensures error { IfErr result (IsOpenError (R.failures disk.old) (R.failures disk.new)) }
     ensures disk { R.only_reads disk.old disk.new }
 {
-    let mut block = block_room(alloc)?;
-    match is_damaged(disk, Some(number), &mut block, 0) {
+    let mut reader = LogReader::open(alloc, Some(number))?;
+    match reader.is_damaged_at(0, disk) {
         Ok(true) => Ok(None),
         Ok(false) => Ok(Some(number)),
         Err(count) => Err(OpenError::Fault { count }),
     }
-}
-
-/// Room for a block.
-pub fn block_room(alloc: Global) -> Result<Vec<u8>, NoMemory>
-    ensures { IfOk result (λ room. vec_len room ≡ BLOCK_LEN) }
-{
-    Ok(vec![in alloc; 0u8; BLOCK_LEN]?)
 }

@@ -1,137 +1,199 @@
 //! Where reading is tried again after it has ended.
 
-ghost use Rattle.std.specs.Prelude.{◌≡◌, ℕ, ◌+◌, ◌<◌, ◌≤◌, ◌^◌, length, take, drop, IfOk, IfErr, IfSome, OnOk};
+ghost use Rattle.std.specs.Prelude.{◌≡◌, ℕ, ◌+◌, ◌<◌, ◌≤◌, ◌%◌, ◌^◌, ◌==◌, ◌&&◌, min, length, nat_lt, Some, None, option_and_then, IfOk, IfErr, IfSome, OnOk, if◌then◌else◌};
 ghost use Rattle.base_devices.specs.Faults.{Rose};
 ghost use Rattle.model_base.specs.Log.{Kind, kind_code};
 ghost use Rattle.model_base.specs.Reading.{ReadingEnds, type_field};
+ghost use Rattle.log_reader.specs.Reader.{Follows, HasBlock, IsSmallEnd};
 ghost use Rattle.log_scan.specs.Resuming as resuming;
 
-use crate::front::read_front;
 use base_devices::ReadAt;
 use byteorder::{ByteOrder, LittleEndian};
-use log_block::{BLOCK_LEN, FIRST, FULL, Seen, header_len, plain_type, read_fragment};
+use log_block::{BLOCK_LEN, FIRST, FULL, header, header_len, plain_type};
+use log_reader::LogReader;
 use model_base::EndReason;
 
-/// No header is longer than this.
-const HEADER_ROOM: usize = 11;
+/// The type of the fragment with which a compressed log begins.
+const SET_COMPRESSION: u8 = 9;
 
 /// Where reading of the log that a disk holds is tried again, after it has ended at this place for this reason; `None`
-/// if it isn't. `block` is room for a block. For a fault of the disk it answers the disk's count of faults.
-pub fn resumes_at<R: ReadAt>(
+/// if it isn't. The reader goes there. For a fault of the disk it answers the disk's count of faults.
+pub fn resume<R: ReadAt>(
+    reader: &mut LogReader,
     disk: &mut R,
     number: Option<u32>,
-    block: &mut [u8],
     at: u64,
     why: EndReason,
 ) -> Result<Option<u64>, u64>
-    requires room { length block.old ≡ BLOCK_LEN }
-    ensures place { IfSome (R.held disk.old) (λ file. (from : ℕ) → ReadingEnds number file from at why
+    requires numbered { reader.old.number ≡ number }
+    requires small { IsSmallEnd at why }
+    ensures place { IfSome (R.held disk.old) (λ file. Follows file reader.old → (from : ℕ)
+        → ReadingEnds number file from at why
         → IfOk result (λ place. place ≡ resuming.resumes_at number file at why)) }
+    ensures is_there { IfSome (R.held disk.old) (λ file. Follows file reader.old → (from : ℕ)
+        → ReadingEnds number file from at why
+        → IfOk result (λ place. IfSome place (λ p. (reader.new.place ≡ p) × Follows file reader.new))) }
+    ensures going { IfOk result (λ place. IfSome place (λ _. reader.new.stopped ≡ None)) }
     ensures small { IfOk result (λ place. IfSome place (λ p. p < 2 ^ 63)) }
-    ensures same_len { length block.new ≡ length block.old }
+    ensures number { reader.new.number ≡ number }
     ensures worked { OnOk result (R.failures disk.new ≡ R.failures disk.old) }
     ensures fault { IfErr result (λ count. Rose (R.failures disk.old) count × (count ≡ R.failures disk.new)) }
     ensures disk { R.only_reads disk.old disk.new }
 {
-    let mut header = [0; HEADER_ROOM];
-    let len = read_front(disk, at, &mut header)?;
-    // The file ends there, and has no later place.
-    if len == 0 {
+    let place = place_after(reader, disk, number, at, why)?;
+    go_if_there(reader, disk, place)
+}
+
+/// Goes to this place, if there is one and the file has a byte there.
+fn go_if_there<R: ReadAt>(
+    reader: &mut LogReader,
+    disk: &mut R,
+    place: Option<u64>,
+) -> Result<Option<u64>, u64>
+    requires small { IfSome place (λ p. p < 2 ^ 63) }
+    ensures place { IfSome (R.held disk.old) (λ file. Follows file reader.old
+        → IfOk result (λ some. some ≡ option_and_then (resuming.there file) place)) }
+    ensures is_there { IfSome (R.held disk.old) (λ file. Follows file reader.old
+        → IfOk result (λ some. IfSome some (λ p. (reader.new.place ≡ p) × Follows file reader.new))) }
+    ensures going { IfOk result (λ some. IfSome some (λ _. reader.new.stopped ≡ None)) }
+    ensures small { IfOk result (λ some. IfSome some (λ p. p < 2 ^ 63)) }
+    ensures number { reader.new.number ≡ reader.old.number }
+    ensures worked { OnOk result (R.failures disk.new ≡ R.failures disk.old) }
+    ensures fault { IfErr result (λ count. Rose (R.failures disk.old) count × (count ≡ R.failures disk.new)) }
+    ensures disk { R.only_reads disk.old disk.new }
+{
+    let Some(place) = place else {
         return Ok(None);
+    };
+    if reader.go_to(place, disk)? {
+        Ok(Some(place))
+    } else {
+        Ok(None)
     }
+}
+
+/// Where reading goes on after this end, if the file has that place. The reader goes to the end's place, and may go on
+/// in its block.
+fn place_after<R: ReadAt>(
+    reader: &mut LogReader,
+    disk: &mut R,
+    number: Option<u32>,
+    at: u64,
+    why: EndReason,
+) -> Result<Option<u64>, u64>
+    requires numbered { reader.old.number ≡ number }
+    requires small { IsSmallEnd at why }
+    ensures place { IfSome (R.held disk.old) (λ file. Follows file reader.old → (from : ℕ)
+        → ReadingEnds number file from at why → IfOk result (λ place.
+        option_and_then (resuming.there file) place ≡ resuming.resumes_at number file at why)) }
+    ensures follows { IfSome (R.held disk.old) (λ file. Follows file reader.old → (from : ℕ)
+        → ReadingEnds number file from at why → OnOk result (Follows file reader.new)) }
+    ensures small { IfOk result (λ place. IfSome place (λ p. p < 2 ^ 63)) }
+    ensures number { reader.new.number ≡ number }
+    ensures worked { OnOk result (R.failures disk.new ≡ R.failures disk.old) }
+    ensures fault { IfErr result (λ count. Rose (R.failures disk.old) count × (count ≡ R.failures disk.new)) }
+    ensures disk { R.only_reads disk.old disk.new }
+{
     match why {
-        EndReason::BadOrder => if_there(disk, after_misplaced(number, &header, at)),
+        EndReason::BadOrder => {
+            reader.go_to(at, disk)?;
+            Ok(after_misplaced(number, reader.rest(), reader.place()))
+        }
         EndReason::Broken(_) => {
-            let place = after_damage(disk, number, block, &header[..len], at)?;
-            if_there(disk, place)
+            reader.go_to(at, disk)?;
+            if is_compressed(at, reader.rest()) {
+                return Ok(None);
+            }
+            after_damage(reader, disk, number)
         }
         _ => Ok(None),
     }
 }
 
-/// This place, if the file has it.
-fn if_there<R: ReadAt>(disk: &mut R, place: u64) -> Result<Option<u64>, u64>
-    ensures place { IfSome (R.held disk.old) (λ file. IfOk result (λ some. some ≡ resuming.there file place)) }
-    ensures small { IfOk result (λ some. IfSome some (λ p. p < 2 ^ 63)) }
-    ensures worked { OnOk result (R.failures disk.new ≡ R.failures disk.old) }
-    ensures fault { IfErr result (λ count. Rose (R.failures disk.old) count × (count ≡ R.failures disk.new)) }
-    ensures disk { R.only_reads disk.old disk.new }
+/// Where reading goes on after a fragment in a wrong place, at the front of these bytes: with it, if it begins a record,
+/// and after it otherwise. Such a fragment is whole.
+fn after_misplaced(number: Option<u32>, rest: &[u8], place: u64) -> Option<u64>
+    requires small { place + length rest.now < 2 ^ 63 }
+    ensures place { (kind : Kind) → type_field rest.now ≡ kind_code number kind
+        → resuming.fragment_len number rest.now ≤ length rest.now
+        → result ≡ Some (resuming.after_header number rest.now place) }
+    ensures small { IfSome result (λ p. p < 2 ^ 63) }
 {
-    match read_front(disk, place, &mut [0])? {
-        0 => Ok(None),
-        _ => Ok(Some(place)),
+    if rest.len() < header_len(number) {
+        return None;
+    }
+    match plain_type(number, rest[6]) {
+        FULL | FIRST => Some(place),
+        _ => Some(place + len_in(number, rest) as u64),
     }
 }
 
-/// Where reading goes on after a fragment in a wrong place, with this header: with it, if it begins a record, and after
-/// it otherwise.
-fn after_misplaced(number: Option<u32>, header: &[u8], at: u64) -> u64
-    requires header { 7 ≤ length header.now }
-    requires small { at < 2 ^ 63 }
-    ensures { (kind : Kind) → type_field header.now ≡ kind_code number kind
-        → result ≡ resuming.after_header number header.now at }
-{
-    match plain_type(number, header[6]) {
-        FULL | FIRST => at,
-        _ => at + fragment_len(number, header),
-    }
-}
-
-/// Where reading goes on after damage, where the file has these bytes of a header: at the end of the fragment, by that
-/// header, if it is in the same block and there is no damage; otherwise at the next block.
+/// Where reading goes on after damage at the reader's place, if the file has that place: at the end of the fragment, by
+/// its header, if it is in the same block and there is no damage; otherwise at the next block.
 fn after_damage<R: ReadAt>(
+    reader: &mut LogReader,
     disk: &mut R,
     number: Option<u32>,
-    block: &mut [u8],
-    header: &[u8],
-    at: u64,
-) -> Result<u64, u64>
-    requires room { length block.old ≡ BLOCK_LEN }
-    requires small { at < 2 ^ 63 }
-    ensures place { IfSome (R.held disk.old) (λ file. header.now ≡ take 11 (drop at file) → IfOk result
-        (λ place. place ≡ resuming.after_damage number file at)) }
-    ensures near { IfOk result (λ place. (at < place) × (place ≤ at + BLOCK_LEN)) }
-    ensures same_len { length block.new ≡ length block.old }
+) -> Result<Option<u64>, u64>
+    requires numbered { reader.old.number ≡ number }
+    requires block { HasBlock reader.old }
+    requires going { reader.old.stopped ≡ None }
+    ensures place { IfSome (R.held disk.old) (λ file. Follows file reader.old → IfOk result (λ place.
+        option_and_then (resuming.there file) place
+        ≡ resuming.there file (resuming.after_damage number file reader.old.place))) }
+    ensures follows { IfSome (R.held disk.old) (λ file. Follows file reader.old
+        → OnOk result (Follows file reader.new)) }
+    ensures small { IfOk result (λ place. IfSome place (λ p. p < 2 ^ 63)) }
+    ensures number { reader.new.number ≡ number }
     ensures worked { OnOk result (R.failures disk.new ≡ R.failures disk.old) }
     ensures fault { IfErr result (λ count. Rose (R.failures disk.old) count × (count ≡ R.failures disk.new)) }
     ensures disk { R.only_reads disk.old disk.new }
 {
-    let next_block = at - at % BLOCK_LEN as u64 + BLOCK_LEN as u64;
-    if header.len() < header_len(number) {
-        return Ok(next_block);
+    let at = reader.place();
+    let rest = reader.rest();
+    let left = rest.len() as u64;
+    let len = len_in(number, rest) as u64;
+    if len == left {
+        return Ok(next_block(at, left));
     }
-    let end = at + fragment_len(number, header);
-    if end >= next_block || is_damaged(disk, number, block, end)? {
-        return Ok(next_block);
+    if reader.is_damaged_at(at + len, disk)? {
+        Ok(next_block(at, left))
+    } else {
+        Ok(Some(at + len))
     }
-    Ok(end)
 }
 
-/// How long the fragment with this header is.
-fn fragment_len(number: Option<u32>, header: &[u8]) -> u64
-    requires { 6 ≤ length header.now }
-    ensures value { result ≡ resuming.fragment_len number header.now }
-    ensures some { (0 < result) × (result < 2 ^ 17) }
+/// Where the next block begins, if the file has `left` bytes of this one from a place on. If that is only a part of the
+/// block's rest, the file has no next one.
+fn next_block(place: u64, left: u64) -> Option<u64>
+    requires small { place + left < 2 ^ 63 }
+    ensures { result ≡ (if nat_lt (place % 32768 + left) 32768 then None else Some (place + left)) }
 {
-    header_len(number) as u64 + u64::from(LittleEndian::read_u16(&header[4..6]))
+    if place % BLOCK_LEN as u64 + left < BLOCK_LEN as u64 {
+        None
+    } else {
+        Some(place + left)
+    }
 }
 
-/// Whether there is damage at this place of the log that a disk holds. `block` is room for a block.
-pub fn is_damaged<R: ReadAt>(
-    disk: &mut R,
-    number: Option<u32>,
-    block: &mut [u8],
-    at: u64,
-) -> Result<bool, u64>
-    requires room { length block.old ≡ BLOCK_LEN }
-    ensures is { IfSome (R.held disk.old) (λ file. IfOk result (λ is. is ≡ resuming.is_damaged number file at)) }
-    ensures same_len { length block.new ≡ length block.old }
-    ensures worked { OnOk result (R.failures disk.new ≡ R.failures disk.old) }
-    ensures fault { IfErr result (λ count. Rose (R.failures disk.old) count × (count ≡ R.failures disk.new)) }
-    ensures disk { R.only_reads disk.old disk.new }
+/// How many of these bytes are the fragment's at their front, as its header says: all, if the header isn't whole.
+fn len_in(number: Option<u32>, bytes: &[u8]) -> usize
+    ensures { result ≡ min (resuming.fragment_len number bytes.now) (length bytes.now) }
 {
-    let in_block = (at % BLOCK_LEN as u64) as usize;
-    let len = read_front(disk, at - in_block as u64, block)?;
-    let seen = read_fragment(number, &block[..len], in_block.min(len));
-    Ok(matches!(seen, Seen::Damage(_)))
+    let header = header_len(number);
+    if bytes.len() < header {
+        return bytes.len();
+    }
+    (header + usize::from(LittleEndian::read_u16(&bytes[4..6]))).min(bytes.len())
+}
+
+/// Whether the log is compressed, by the bytes of a block from this place on.
+fn is_compressed(place: u64, rest: &[u8]) -> bool
+    requires { length rest.now ≤ BLOCK_LEN }
+    ensures { result ≡ (place == 0 && resuming.sets_compression rest.now) }
+{
+    if place > 0 || rest.len() < 7 {
+        return false;
+    }
+    &rest[..7] == header(None, SET_COMPRESSION, &rest[7..len_in(None, rest)]).as_slice()
 }

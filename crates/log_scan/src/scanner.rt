@@ -1,17 +1,16 @@
 //! The records of a log, one after another, also after damage.
 
-ghost use Rattle.std.specs.Prelude.{◌≡◌, ◌<◌, ◌≤◌, ◌^◌, ℕ, List, None, length, vec_len, IfOk, IfErr, IfSome, OnOk};
+ghost use Rattle.std.specs.Prelude.{◌≡◌, ◌<◌, ◌≤◌, ◌^◌, ℕ, List, None, length, IfOk, IfErr, IfSome, OnOk};
 ghost use Rattle.base_devices.specs.Faults.{Rose};
 ghost use Rattle.log_reader.specs.Opens.{IsOpenError};
 ghost use Rattle.model_base.specs.Reading.{ReadingEnds};
 ghost use Rattle.log_scan.specs.declared.scanner.Found.TheVariants.{Record};
 ghost use Rattle.log_scan.specs.Scanning as scanning;
-ghost use Rattle.log_scan.specs.Scanner.{AnswersScan, GoesTo, HasFault, IsAt, IsGoing, Passes, WhereItGoesOn, unread_before};
+ghost use Rattle.log_reader.specs.Reader.{Follows, IsSmallEnd};
+ghost use Rattle.log_scan.specs.Scanner.{AnswersScan, HasFault, IsAt, IsGoing, Passes, WhereItGoesOn, unread_before};
 
-use crate::numbers::block_room;
-use crate::resuming::resumes_at;
+use crate::resuming::resume;
 use base_devices::ReadAt;
-use log_block::BLOCK_LEN;
 use log_reader::{LogReader, Next, OpenError};
 use model_base::{EndReason, NoMemory};
 use std::alloc::Global;
@@ -59,7 +58,7 @@ pub enum Found {
     NoMemory,
 }
 
-/// Finds the records of a log, from the first on. It holds two blocks and the record in hand. Contracts see the log's
+/// Finds the records of a log, from the first on. It holds one block and the record in hand. Contracts see the log's
 /// number, whether it reads on after damage, the place after the last record that it found, the one from which it
 /// reads, and where and why reading first ended between the two; and its reader, with the record in hand.
 #[derive(Drop)]
@@ -67,12 +66,9 @@ pub struct Scanner {
     goes_on: bool,
     number: Option<u32>,
     reader: LogReader,
-    /// Room for a block that is looked into.
-    block: Vec<u8>,
     place: u64,
     here: u64,
     lost: Option<Lost>,
-    ghost room: { vec_len block ≡ 32768 },
     ghost numbered: { reader.number ≡ number },
 }
 
@@ -105,7 +101,6 @@ impl Scanner {
             goes_on,
             number,
             reader: LogReader::open(alloc, number)?,
-            block: block_room(alloc)?,
             place: 0,
             here: 0,
             lost: None,
@@ -131,13 +126,11 @@ impl Scanner {
         ensures error { IfErr result (IsOpenError (R.failures disk.old) (R.failures disk.new)) }
         ensures disk { R.only_reads disk.old disk.new }
     {
-        let block = block_room(alloc)?;
         let reader = LogReader::open_at(alloc, number, place, disk)?;
         Ok(Scanner {
             goes_on,
             number,
             reader,
-            block,
             place,
             here: place,
             lost: None,
@@ -145,7 +138,7 @@ impl Scanner {
     }
 
     /// Finds the next record of the log that the disk holds, which should be the same at each call, or passes over
-    /// something that doesn't read. It reads at most one record, and then a few blocks. It may be called again after
+    /// something that doesn't read. No block is read twice for what doesn't read in it. It may be called again after
     /// `Record` and `Passed`; after another answer nothing is promised of a further call.
     pub fn next<R: ReadAt>(&mut self, alloc: Global, disk: &mut R) -> Found
         // Of a file whose content is known: the next record of the definition, with what doesn't read before it; or the
@@ -174,7 +167,7 @@ impl Scanner {
                 at: start,
                 why: EndReason::Clean,
             },
-            Next::End { at, why } => self.pass(alloc, disk, Lost { at, why }),
+            Next::End { at, why } => self.pass(disk, Lost { at, why }),
             Next::Fault { count } => Found::Fault { count },
             Next::NoMemory => Found::NoMemory,
         }
@@ -204,9 +197,11 @@ impl Scanner {
         Found::Record { unread, start, end }
     }
 
-    /// The reader has ended like this. A new one begins at a later place, if it should go on.
-    fn pass<R: ReadAt>(&mut self, alloc: Global, disk: &mut R, end: Lost) -> Found
-        ensures found { IfSome (R.held disk.old) (λ file. ReadingEnds self.old.number file self.old.here end.at end.why
+    /// The reader has ended like this. It goes on at a later place, if it should.
+    fn pass<R: ReadAt>(&mut self, disk: &mut R, end: Lost) -> Found
+        requires small { IsSmallEnd end.at end.why }
+        ensures found { IfSome (R.held disk.old) (λ file. Follows file self.old.reader
+            → ReadingEnds self.old.number file self.old.here end.at end.why
             → Passes file self.old self.new end result) }
         ensures going { WhereItGoesOn result (IsGoing self.new) }
         ensures forward { WhereItGoesOn result ((self.old.here < self.new.here) × (self.new.here < 2 ^ 63)) }
@@ -217,9 +212,17 @@ impl Scanner {
     {
         let first = self.lost.unwrap_or(end);
         match self.later_place(disk, end) {
+            Ok(Some(place)) if place > self.here => {
+                self.here = place;
+                self.lost = Some(first);
+                Found::Passed
+            }
             // The place is always later. Where the disk tells nothing no clause says so.
-            Ok(Some(place)) if place > self.here => self.go_to(alloc, disk, place, first),
-            Ok(_) => Found::End {
+            Ok(Some(_)) => Found::End {
+                at: first.at,
+                why: first.why,
+            },
+            Ok(None) => Found::End {
                 at: first.at,
                 why: first.why,
             },
@@ -227,38 +230,18 @@ impl Scanner {
         }
     }
 
-    /// Reads on from this place, after reading first ended like this.
-    fn go_to<R: ReadAt>(&mut self, alloc: Global, disk: &mut R, place: u64, first: Lost) -> Found
-        requires later { self.old.here < place }
-        requires small { place < 2 ^ 63 }
-        ensures found { IfSome (R.held disk.old) (λ file. place ≤ length file
-            → GoesTo file self.old self.new place first result) }
-        ensures going { WhereItGoesOn result (IsGoing self.new) }
-        ensures forward { WhereItGoesOn result ((self.old.here < self.new.here) × (self.new.here < 2 ^ 63)) }
-        ensures goes_on { self.new.goes_on ≡ self.old.goes_on }
-        ensures number { self.new.number ≡ self.old.number }
-        ensures fault { HasFault (R.failures disk.old) (R.failures disk.new) result }
-        ensures disk { R.only_reads disk.old disk.new }
-    {
-        match LogReader::open_at(alloc, self.number, place, disk) {
-            Ok(reader) => {
-                self.reader = reader;
-                self.here = place;
-                self.lost = Some(first);
-                Found::Passed
-            }
-            Err(OpenError::Fault { count }) => Found::Fault { count },
-            Err(OpenError::NoMemory) => Found::NoMemory,
-        }
-    }
-
-    /// Where reading is tried again after this end, if it is.
+    /// Where reading is tried again after this end, if it is. The reader goes there.
     fn later_place<R: ReadAt>(&mut self, disk: &mut R, end: Lost) -> Result<Option<u64>, u64>
-        ensures place { IfSome (R.held disk.old) (λ file. (from : ℕ)
+        requires small { IsSmallEnd end.at end.why }
+        ensures place { IfSome (R.held disk.old) (λ file. Follows file self.old.reader → (from : ℕ)
             → ReadingEnds self.old.number file from end.at end.why → IfOk result
             (λ place. place ≡ scanning.later_place self.old.number self.old.goes_on file end.at end.why)) }
+        ensures is_there { IfSome (R.held disk.old) (λ file. Follows file self.old.reader → (from : ℕ)
+            → ReadingEnds self.old.number file from end.at end.why → IfOk result (λ place.
+            IfSome place (λ p. (self.new.reader.place ≡ p) × Follows file self.new.reader))) }
+        ensures going { IfOk result (λ place. IfSome place (λ _. IsGoing self.new)) }
         ensures small { IfOk result (λ place. IfSome place (λ p. p < 2 ^ 63)) }
-        ensures same { self.new ≡ self.old }
+        ensures rest { self.new ≡ record self.old { reader = self.new.reader } }
         ensures worked { OnOk result (R.failures disk.new ≡ R.failures disk.old) }
         ensures fault { IfErr result (λ count. Rose (R.failures disk.old) count × (count ≡ R.failures disk.new)) }
         ensures disk { R.only_reads disk.old disk.new }
@@ -266,6 +249,6 @@ impl Scanner {
         if !self.goes_on {
             return Ok(None);
         }
-        resumes_at(disk, self.number, &mut self.block, end.at, end.why)
+        resume(&mut self.reader, disk, self.number, end.at, end.why)
     }
 }

@@ -1,21 +1,22 @@
 -- What is found in a file stays found when more bytes come after it.
 use Rattle.std.proofs.Common.{◌≡◌, ⊎_elim, ℕ, ◌+◌, ◌-◌, ◌<◌, ◌≤◌, Bool, true, false, not, ◌&&◌, cond, List, [], ◌∷◌, ◌++◌, length, take, drop, bytes_eq, Option, Some, None, nat_lt, nat_le, ◌==◌, refl, sym, ◌∙◌, ap, subst, arith, append_assoc, length-append, length-take, length-drop}
 use Rattle.std.proofs.Math.Seq.{take-append-add}
-use Rattle.std.proofs.lemmas.Bool.{ltb-true, leb-true, lt-ltb, le-ltb, le-leb, ne_eqb, cases_lt}
+use Rattle.std.proofs.lemmas.Bool.{ltb-true, leb-true, lt-ltb, le-ltb, le-leb, ne_eqb, eqb-true, cases_lt}
 use Rattle.std.proofs.lemmas.List.{take_all, take-append-le, drop-append-le}
 use Rattle.std.specs.Int.{w16, w32, to_le_bytes, from_le_bytes}
 use Rattle.model_base.specs.declared.log.Damage.TheVariants.{Zeros, BadLength, BadType, BadChecksum, OldLog}
 use Rattle.model_base.specs.declared.log.EndReason.{EndReason}
 use Rattle.model_base.specs.Checksum.{crc32c, masked}
-use Rattle.model_base.specs.Log.{Kind, Fragment, AreOneRecord, kinds_of, header_len, fragments_text, room, trailer, next_place, plain_log}
+use Rattle.model_base.specs.Log.{Kind, Fragment, AreOneRecord, kinds_of, header, header_len, fragments_text, room, trailer, next_place, plain_log}
 use Rattle.model_base.specs.Reading.{Seen, Next, fragment, nothing, damage, seen_within, seen_at, next_seen, behind_zeros, are_zeros, checksum_field, length_field, type_field, part_field, kind_of_code, seen_of_kind, seen_of_kind_numbered, HasFragments, end_of, IsRecord, ReadingEnds, clean, broken, bad_order, unfinished}
 use Rattle.log_laws.proofs.Next.{seen_past}
 use Rattle.log_laws.proofs.Placed.{end_none}
 use Rattle.log_laws.proofs.ReadSynced.{next_first}
 use Rattle.log_scan.specs.declared.scanner.Lost.{Lost}
-use Rattle.log_scan.specs.Resuming.{fragment_len, begins_record, is_damage, is_damaged, next_block, there, after_damage, after_misplaced}
+use Rattle.log_reader.specs.Damaged.{is_damage, is_damaged}
+use Rattle.log_scan.specs.Resuming.{fragment_len, begins_record, next_block, there, after_damage, after_misplaced, sets_compression, is_compressed}
 use Rattle.log_scan.specs.Scanning.{Item, Finds, found_none, found_more, Skips, not_skipped, skipped_first, skipped_again, later_place}
-use Rattle.log_scan.proofs.Places.{some_header, place_there, type_in_front, length_in_front, fragment_there}
+use Rattle.log_scan.proofs.Places.{some_header, place_there, resumes_there, type_in_front, length_in_front, fragment_there}
 use Rattle.log_scan.proofs.Later.{end_later}
 
 -- bytes within a list are the same when more come after it
@@ -261,6 +262,34 @@ module _ (number : Option ℕ) (file more : List ℕ) where
               ∙ (ap (λ (n : ℕ). at + n) same ∙ place);
         }
 
+    -- where reading is tried again after the first fragment, it stays the same whether that is one of a compressed log
+    first_same : at ≡ 0 → is_compressed grown ≡ is_compressed file
+    first_same first = ⊎_elim in_short in_whole (cases_lt (length file) (at + room at))
+      where
+        in_whole : at + room at ≤ length file → is_compressed grown ≡ is_compressed file
+        in_whole whole = ap sets_compression (take-append-le 32768 file more (omega (arith, first, whole)))
+
+        in_short : length file < at + room at → is_compressed grown ≡ is_compressed file
+        in_short short =
+            let t = tests short in
+            let place : at + len_at at ≡ next = sym (goes at _ _ _ (len_at at) t.0 t.1 t.2) ∙ is in
+            let own : len_at at ≡ fragment_len number file = ap (λ (n : ℕ). fragment_len number (drop n file)) first in
+            let has : 7 + length_field file ≤ length file = omega (arith, first, place, own, inside, some_header number) in
+            let left : ℕ = 32768 - length file in
+            let split : 32768 ≡ length file + left = omega (arith, first, short) in
+            let old : take 32768 file ≡ file = take_all 32768 file (omega (arith, first, short)) in
+            let new : take 32768 grown ≡ file ++ take left more = ap (λ (n : ℕ). take n grown) split ∙ take-append-add file more left in
+            ap sets_compression new
+            ∙ (ap (λ (l : List ℕ). bytes_eq l (header plain_log 9 (part_field plain_log (file ++ take left more)))) (take-append-le 7 file (take left more) (omega (arith, has)))
+            ∙ (ap (λ (p : List ℕ). bytes_eq (take 7 file) (header plain_log 9 p)) (part_same None file (take left more) has) ∙ ap sets_compression (sym old)))
+
+    begins_same : (at == 0 && is_compressed grown) ≡ (at == 0 && is_compressed file)
+    begins_same = by_test (at == 0) refl
+      where
+        by_test : (b : Bool) → (at == 0) ≡ b → (b && is_compressed grown) ≡ (b && is_compressed file)
+        by_test true e = first_same (eqb-true at 0 e)
+        by_test false e = refl
+
     in_whole_block : at + room at ≤ length file → Stays at next
     in_whole_block whole = record { seen = seen_whole at whole; after = ⊎_elim short long (cases_lt (len_at at) (room at)) ∙ is }
       where
@@ -333,12 +362,14 @@ module _ (number : Option ℕ) (file more : List ℕ) where
   end_stays here at next why (clean c) again fine = absurd (cc)
   end_stays here at next why (unfinished f fs c) again fine = absurd (cc)
   end_stays here at next why (broken {d = d} fs c) again fine =
-      let is = place_there file (after_damage number file at) next again in
+      let goes_on = resumes_there number file at next d again in
+      let is = place_there file (after_damage number file at) next goes_on.1 in
       let s : Sees (end_of number here fs) = record { at = at; seen = damage d; is = c.is_next; some = λ e. cc } in
       let stays = damage_stays at next is.0 is.1 fine in
       record {
         ends = broken fs (record { begun = c.begun; stand = stand_stays here fs c.stand; is_next = next_stays (end_of number here fs) s (stays.seen ∙ sees_there (end_of number here fs) s) });
-        again = ap (there grown) stays.after ∙ there_stays next is.1;
+        again = ap (λ (b : Bool). cond b None (there grown (after_damage number grown at))) (begins_same at next is.0 is.1 ∙ goes_on.0)
+            ∙ (ap (there grown) stays.after ∙ there_stays next is.1);
       }
   end_stays here at next why (bad_order {f = f} fs c not_begun not_one) again fine =
       let is = place_there file (after_misplaced number file at) next again in

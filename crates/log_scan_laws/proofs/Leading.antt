@@ -14,7 +14,8 @@ use Rattle.log_laws.proofs.Placed.{behind, end_none, end_more}
 use Rattle.log_laws.proofs.ReadSynced.{next_first, stand_rest}
 use Rattle.log_recovery_laws.proofs.NextFragment.{next_begins}
 use Rattle.log_recovery_laws.proofs.SeenFragment.{fragment_is}
-use Rattle.log_scan.specs.Resuming.{fragment_len, is_damaged, next_block, after_damage}
+use Rattle.log_reader.specs.Damaged.{is_damaged}
+use Rattle.log_scan.specs.Resuming.{fragment_len, next_block, after_damage}
 use Rattle.log_scan.proofs.Places.{some_header, after_damage_later, next_after}
 
 -- from this place the reader comes to where it sees `target`

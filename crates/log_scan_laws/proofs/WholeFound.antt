@@ -1,26 +1,29 @@
 -- A whole record on the way of the reader is found, whatever is damaged before it.
-use Rattle.std.proofs.Common.{◌≡◌, ◌⊎◌, inl, inr, ⊎_elim, ℕ, suc, ◌+◌, ◌*◌, ◌/◌, ◌<◌, ◌≤◌, Bool, true, false, cond, List, [], ◌∷◌, ◌++◌, length, take, drop, replicate, Option, Some, None, nat_lt, refl, sym, ◌∙◌, ap, subst, arith, append_assoc, length-append, length-take, length-drop}
+use Rattle.std.proofs.Common.{◌≡◌, ◌⊎◌, inl, inr, ⊎_elim, ℕ, suc, ◌+◌, ◌*◌, ◌/◌, ◌<◌, ◌≤◌, Bool, true, false, cond, List, [], ◌∷◌, ◌++◌, length, take, drop, replicate, Option, Some, None, nat_lt, ◌==◌, ◌&&◌, refl, sym, ◌∙◌, ap, subst, arith, append_assoc, length-append, length-take, length-drop}
 use Rattle.std.proofs.Math.ListN.{length-replicate}
 use Rattle.std.proofs.Math.Seq.{drop-append_seam}
-use Rattle.std.proofs.lemmas.Bool.{lt-ltb}
+use Rattle.std.proofs.lemmas.Bool.{lt-ltb, eqb-true}
+use Rattle.std.proofs.lemmas.Slice.Eq.{bytes_eq-Decides}
 use Rattle.std.proofs.lemmas.List.{drop-drop}
 use Rattle.std.specs.List.{AllByRecursion}
 use Rattle.model_base.specs.declared.log.Damage.{Damage}
 use Rattle.model_base.specs.declared.log.EndReason.{EndReason}
-use Rattle.model_base.specs.Log.{Kind, full, first, middle, last, Fragment, AreOneRecord, GoesToLast, kinds_of, record_of, header_len, fragments_text, fragment_bytes, room, trailer, next_place, FitFrom}
-use Rattle.model_base.specs.Reading.{Next, fragment, nothing, damage, seen_at, next_seen, behind_zeros, kind_of_code, type_field, length_field, AreBegun, HasFragments, end_of, ReadingEnds, clean, broken, bad_order, unfinished}
+use Rattle.std.specs.Int.{w16, w32, to_le_bytes}
+use Rattle.model_base.specs.Checksum.{crc32c, masked}
+use Rattle.model_base.specs.Log.{Kind, full, first, middle, last, Fragment, AreOneRecord, GoesToLast, kinds_of, record_of, header, header_len, kind_code, plain_log, fragments_text, fragment_bytes, room, trailer, next_place, FitFrom}
+use Rattle.model_base.specs.Reading.{Next, fragment, nothing, damage, seen_at, next_seen, behind_zeros, kind_of_code, type_field, length_field, part_field, AreBegun, HasFragments, end_of, ReadingEnds, clean, broken, bad_order, unfinished}
 use Rattle.log_laws.proofs.Placed.{behind, end_none, end_more, placed_append}
 use Rattle.log_laws.proofs.ReadSynced.{next_first, stand_rest, stand_behind}
 use Rattle.log_recovery_laws.proofs.NextFragment.{next_begins}
 use Rattle.log_recovery_laws.proofs.SeenFragment.{fragment_is}
-use Rattle.log_recovery_laws.proofs.Reading.{stand_more}
+use Rattle.log_recovery_laws.proofs.Reading.{stand_more, record_long}
 use Rattle.log_recovery_laws.proofs.OneReading.{one_record, no_end}
 use Rattle.log_scan.specs.declared.scanner.Lost.{Lost}
-use Rattle.log_scan.specs.Resuming.{fragment_len, begins_record, there, after_damage, after_misplaced}
+use Rattle.log_scan.specs.Resuming.{fragment_len, begins_record, there, after_damage, after_misplaced, sets_compression, is_compressed}
 use Rattle.log_scan.specs.Scanning.{Item, whole, unread, Scan, IsScan, items_with, later_place}
-use Rattle.log_scan.proofs.Places.{some_header, seen_there, kind_there, length_in_front}
-use Rattle.log_scan.proofs.Later.{end_later}
-use Rattle.log_scan_laws.specs.FromPlace.{IsScanFrom, HasRecord}
+use Rattle.log_scan.proofs.Places.{some_header, seen_there, kind_there, type_there, type_in_front, length_in_front, next_after}
+use Rattle.log_scan.proofs.Later.{end_later, is_later}
+use Rattle.log_scan_laws.specs.FromPlace.{IsScanFrom, HasRecord, PassesStart}
 use Rattle.log_scan_laws.proofs.Leading.{Leads, arrives, past_fragment, past_damage, leads_up, same_way, lead_on, lead_over, start_of, at_start, first_of, seen_first, leads_to_block}
 use Rattle.log_scan_laws.proofs.OneScan.{Runs, run_from, from_start}
 use Rattle.log_scan_laws.proofs.OneScan as run
@@ -152,6 +155,14 @@ module _ (number : Option ℕ) (file : List ℕ) (start : ℕ) (f : Fragment) (f
   end_here v place =
       end_more number v f fs ∙ (ap (λ (n : ℕ). end_of number (n + header_len number + length f.part) fs) (place ∙ sym starts) ∙ sym (end_more number start f fs))
 
+  -- the first fragment of a compressed log isn't where reading ended, from a place that passes the file's start
+  plain_there : (here at : ℕ) → PassesStart file here → here ≤ at → (at == 0 && is_compressed file) ≡ false
+  plain_there here at plain later = by_test (at == 0) refl
+    where
+      by_test : (b : Bool) → (at == 0) ≡ b → (b && is_compressed file) ≡ false
+      by_test true e = plain (omega (arith, eqb-true at 0 e, later))
+      by_test false e = refl
+
   -- Reading that ended before is tried again on the way.
   record Again (at : ℕ) (why : EndReason) : Type 0 where
     next : ℕ
@@ -217,8 +228,8 @@ module _ (number : Option ℕ) (file : List ℕ) (start : ℕ) (f : Fragment) (f
             subst LeadsTo (sym ends_there) (subst (λ (x : Fragment). LeadsTo (behind number v x)) same more)
         by_header false e (past_damage d to more) = let wrong : damage d ≡ fragment z = ap (λ (n : Next). n.seen) (to ∙ sym is) in absurd (cc)
 
-  again : (here at : ℕ) (why : EndReason) → LeadsTo here → ReadingEnds number file here at why → Again at why
-  again here at why leads end = by_end at why end
+  again : (here at : ℕ) (why : EndReason) → PassesStart file here → LeadsTo here → ReadingEnds number file here at why → Again at why
+  again here at why plain leads end = by_end at why end
     where
       -- the record isn't where reading began, since reading ended there
       on : (gs : List Fragment) → AreBegun (kinds_of gs) → HasFragments number file here gs → LeadsTo (end_of number here gs)
@@ -232,23 +243,29 @@ module _ (number : Option ℕ) (file : List ℕ) (start : ℕ) (f : Fragment) (f
       by_end place reason (unfinished {at = p} g gs c) = absurd (not_nothing (end_of number here (g ∷ gs)) p (on (g ∷ gs) c.begun c.stand) c.is_next)
       by_end place reason (broken {d = d} gs c) =
           let later = after_broken (end_of number here gs) place d (on gs c.begun c.stand) c.is_next in
-          record { next = after_damage number file place; is = there_is (after_damage number file place) later; leads = later }
+          let after : here ≤ place = omega (arith, next_after number file (end_of number here gs) place (damage d) c.is_next) in
+          record {
+            next = after_damage number file place;
+            is = ap (λ (b : Bool). cond b None (there file (after_damage number file place))) (plain_there here place plain after) ∙ there_is (after_damage number file place) later;
+            leads = later;
+          }
       by_end place reason (bad_order {f = z} gs c not_begun not_one) =
           let later = goes_on (end_of number here gs) place z c.is_next (on gs c.begun c.stand) in
           record { next = after_misplaced number file place; is = there_is (after_misplaced number file place) later; leads = later }
 
   -- The record is among the items of a run that is on the way to it.
-  pub found_in : (place here at : ℕ) (why : EndReason) (lost : Option Lost) (items : List Item) → Runs number true file place here lost items at why → LeadsTo here → IsFound items
-  found_in place here at why lost items (run.ends end x none first_is) leads =
-      let on = again here end.at end.why leads x in
+  pub found_in : (place here at : ℕ) (why : EndReason) (lost : Option Lost) (items : List Item) → Runs number true file place here lost items at why → PassesStart file here → LeadsTo here → IsFound items
+  found_in place here at why lost items (run.ends end x none first_is) plain leads =
+      let on = again here end.at end.why plain leads x in
       let wrong : None ≡ Some on.next = sym none ∙ on.is in
       absurd (cc)
-  found_in place here at why lost items (run.skips {next = next} end x some rest) leads =
-      let on = again here end.at end.why leads x in
+  found_in place here at why lost items (run.skips {next = next} end x some rest) plain leads =
+      let on = again here end.at end.why plain leads x in
       let both : Some on.next ≡ Some next = sym on.is ∙ some in
       let same : on.next ≡ next = cc in
-      found_in place next at why _ items rest (subst LeadsTo same on.leads)
-  found_in place here at why lost _ (run.finds {start = s} {end = e} {bytes = bytes} {items = more_items} is more) leads = ⊎_elim
+      let later = is_later number true file here end.at next end.why x some in
+      found_in place next at why _ items rest (λ start. absurd (omega (arith, start, later.0))) (subst LeadsTo same on.leads)
+  found_in place here at why lost _ (run.finds {start = s} {end = e} {bytes = bytes} {items = more_items} is more) plain leads = ⊎_elim
       (λ a.
       let it = it_is_here here is.fragments is.stand a (inr is.one) in
       let same : is.fragments ≡ f ∷ fs = one_record number file here is.fragments (f ∷ fs) is.one one is.stand it.1 in
@@ -257,7 +274,8 @@ module _ (number : Option ℕ) (file : List ℕ) (start : ℕ) (f : Fragment) (f
       let bytes_is : bytes ≡ record_of (f ∷ fs) = is.bytes_are ∙ ap record_of same in
       with_lost lost place s e bytes more_items start_is end_is bytes_is)
       (λ l.
-      let found = found_in e e at why None more_items more (subst LeadsTo (sym is.ends) l) in
+      let later = record_long number here is.fragments is.one in
+      let found = found_in e e at why None more_items more (λ start. absurd (omega (arith, start, is.ends, later))) (subst LeadsTo (sym is.ends) l) in
       (items_with lost place s e bytes ++ found.0, found.1, ap (λ (l : List Item). items_with lost place s e bytes ++ l) found.2 ∙ sym (append_assoc (items_with lost place s e bytes) found.0 _)))
       (through here is.fragments is.stand leads)
     where
@@ -333,31 +351,72 @@ module _ (number : Option ℕ) (file : List ℕ) (v : ℕ) (before : List Fragme
   leads_to_it = lead_over number file its v before (f ∷ fs) stand (arrives seen_at_end)
 
   -- so each run that is on the way there finds it
-  pub found_there : (from at : ℕ) (why : EndReason) (items : List Item) → Runs number true file from from None items at why → Leads number file its from → AreOneRecord (kinds_of (f ∷ fs))
+  pub found_there : (from at : ℕ) (why : EndReason) (items : List Item) → Runs number true file from from None items at why → PassesStart file from → Leads number file its from → AreOneRecord (kinds_of (f ∷ fs))
       → HasRecord number v before (f ∷ fs) items
   unfolding its place end target
-  found_there from at why items goes way one =
+  found_there from at why items goes plain way one =
       let at_place : HasFragments number file place (f ∷ fs) = stand_at number file end f fs at_end in
-      let found = found_in number file place f fs one at_place (twice_is number end) from from at why None items goes way in
+      let found = found_in number file place f fs one at_place (twice_is number end) from from at why None items goes plain way in
       let joined : end_of number end (f ∷ fs) ≡ end_of number v (before ++ f ∷ fs) =
       omega (arith, ap length (placed_append number v before (f ∷ fs)), length-append (fragments_text number v before) (fragments_text number end (f ∷ fs))) in
       let ends : end_of number place (f ∷ fs) ≡ end_of number v (before ++ f ∷ fs) =
       sym (end_here number file place f fs one at_place (twice_is number end) end refl) ∙ joined in
       (found.0, found.1, found.2 ∙ ap (λ (n : ℕ). found.0 ++ whole place n (record_of (f ∷ fs)) ∷ found.1) ends)
 
+-- a header's type is its seventh byte
+seventh : (sum len code : ℕ) → type_field (to_le_bytes w32 sum ++ to_le_bytes w16 len ++ code ∷ []) ≡ code
+seventh sum len code = refl
+
+header_type : (code : ℕ) (part : List ℕ) → type_field (header plain_log code part) ≡ code
+header_type code part = seventh (masked (crc32c (code ∷ part))) (length part) code
+
+not_nine : (number : Option ℕ) (k : Kind) → kind_code number k ≡ 9 → ⊥
+not_nine None full e = cc
+not_nine None first e = cc
+not_nine None middle e = cc
+not_nine None last e = cc
+not_nine (Some n) full e = cc
+not_nine (Some n) first e = cc
+not_nine (Some n) middle e = cc
+not_nine (Some n) last e = cc
+
+not_compressed : (number : Option ℕ) (file : List ℕ) (f : Fragment) → seen_at number file 0 ≡ fragment f → is_compressed file ≡ false
+not_compressed number file f seen = by_test (is_compressed file) refl
+  where
+    block : List ℕ
+    block = take 32768 file
+
+    by_test : (b : Bool) → is_compressed file ≡ b → b ≡ false
+    by_test false e = refl
+    by_test true e =
+        let same : take 7 block ≡ header plain_log 9 (part_field plain_log block) = (bytes_eq-Decides (take 7 block) (header plain_log 9 (part_field plain_log block))).0 e in
+        let nine : type_field file ≡ 9 = sym (type_in_front 32768 file (omega arith)) ∙ (sym (type_in_front 7 block (omega arith)) ∙ (ap type_field same ∙ header_type 9 (part_field plain_log block))) in
+        absurd (not_nine number f.kind (sym (type_there number file 0 f seen) ∙ nine))
+
+-- where a fragment is at the file's start, the log isn't a compressed one
+begins_plain : (number : Option ℕ) (file : List ℕ) (from : ℕ) (fs : List Fragment) → HasFragments number file from fs → 0 < length fs → PassesStart file from
+begins_plain number file from [] stand some = absurd (omega (arith, some))
+begins_plain number file from (f ∷ fs) stand some = λ start.
+    let first : HasFragments number file 0 (f ∷ fs) = subst (λ (n : ℕ). HasFragments number file n (f ∷ fs)) start stand in
+    let here : next_place number 0 ≡ 0 = at_start number 0 in
+    not_compressed number file f (seen_there number file 0 0 f (ap (λ (n : ℕ). record { at = n; seen = fragment f }) (sym here) ∙ sym (next_first number file 0 f fs first)))
+
 -- A scan from the place itself is on the way.
 pub found_from_there : (number : Option ℕ) (file : List ℕ) (from : ℕ) (scan : Scan) (before fragments : List Fragment) → IsScanFrom number true file from scan
     → HasFragments number file from (before ++ fragments) → AreOneRecord (kinds_of fragments) → HasRecord number from before fragments scan.items
 found_from_there number file from scan before [] is stand one = absurd one
 found_from_there number file from scan before (f ∷ fs) is stand one =
-    found_there number file from before f fs stand from scan.at scan.why scan.items (run_from number true file from scan is) (leads_to_it number file from before f fs stand) one
+    found_there number file from before f fs stand from scan.at scan.why scan.items (run_from number true file from scan is) (begins_plain number file from (before ++ f ∷ fs) stand (some_before before)) (leads_to_it number file from before f fs stand) one
+  where
+    some_before : (l : List Fragment) → 0 < length (l ++ f ∷ fs)
+    some_before l = omega (arith, length-append l (f ∷ fs))
 
 -- So is a scan from a place before it, if the place is the start of a block.
-pub found_in_order : (number : Option ℕ) (file : List ℕ) (from : ℕ) (scan : Scan) (block : ℕ) (before fragments : List Fragment) → IsScanFrom number true file from scan → from ≤ 32768 * block
+pub found_in_order : (number : Option ℕ) (file : List ℕ) (from : ℕ) (scan : Scan) (block : ℕ) (before fragments : List Fragment) → IsScanFrom number true file from scan → PassesStart file from → from ≤ 32768 * block
     → HasFragments number file (32768 * block) (before ++ fragments) → AreOneRecord (kinds_of fragments) → HasRecord number (32768 * block) before fragments scan.items
-found_in_order number file from scan block before [] is up stand one = absurd one
-found_in_order number file from scan block before (f ∷ fs) is up stand one =
-    found_there number file (start_of block) before f fs stand from scan.at scan.why scan.items (run_from number true file from scan is)
+found_in_order number file from scan block before [] is plain up stand one = absurd one
+found_in_order number file from scan block before (f ∷ fs) is plain up stand one =
+    found_there number file (start_of block) before f fs stand from scan.at scan.why scan.items (run_from number true file from scan is) plain
     (lead_on number file (first_of number file block) itself from (leads_to_block number file block from up inside) from_block) one
   where
     itself : Next
@@ -370,6 +429,6 @@ found_in_order number file from scan block before (f ∷ fs) is up stand one =
     from_block w e =
         same_way number file itself (start_of block) w (e ∙ sym (seen_first number file block inside)) (leads_to_it number file (start_of block) before f fs stand)
 
-pub whole_found : (number : Option ℕ) (file : List ℕ) (scan : Scan) (block : ℕ) (before fragments : List Fragment) → IsScan number true file scan
+pub whole_found : (number : Option ℕ) (file : List ℕ) (scan : Scan) (block : ℕ) (before fragments : List Fragment) → IsScan number true file scan → is_compressed file ≡ false
     → HasFragments number file (32768 * block) (before ++ fragments) → AreOneRecord (kinds_of fragments) → HasRecord number (32768 * block) before fragments scan.items
-whole_found number file scan block before fragments is stand one = found_in_order number file 0 scan block before fragments (from_start number true file scan is) (omega arith) stand one
+whole_found number file scan block before fragments is plain stand one = found_in_order number file 0 scan block before fragments (from_start number true file scan is) (λ start. plain) (omega arith) stand one

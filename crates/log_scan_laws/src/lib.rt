@@ -15,8 +15,9 @@ ghost use Rattle.std.specs.Prelude.{◌≡◌, ◌*◌, ◌<◌, ◌≤◌, ℕ,
 ghost use Rattle.std.specs.List.{AllByRecursion};
 ghost use Rattle.model_base.specs.Log.{Fragment, AreOneRecord, kinds_of, record_of, next_place};
 ghost use Rattle.model_base.specs.Reading.{HasFragments, end_of};
+ghost use Rattle.log_scan.specs.Resuming.{is_compressed};
 ghost use Rattle.log_scan.specs.Scanning.{Item, Finds, IsScan, Scan, whole};
-ghost use Rattle.log_scan_laws.specs.FromPlace.{IsScanFrom, HasRecord};
+ghost use Rattle.log_scan_laws.specs.FromPlace.{IsScanFrom, HasRecord, PassesStart};
 
 pub use rows::a_changed_byte_is_passed_over;
 
@@ -35,11 +36,12 @@ pub fn a_list_is_a_front()
 {}
 
 /// Whatever is damaged, a whole record that is in the order of its block is found: from the block's start on the file
-/// has fragments that read, and the last of them are the record's.
+/// has fragments that read, and the last of them are the record's. Of a compressed log nothing is shown.
 pub fn whole_records_are_found()
     ensures { (number : Option ℕ) (file : List ℕ) (scan : Scan) (block : ℕ) (before fragments : List Fragment)
-        → IsScan number true file scan → HasFragments number file (32768 * block) (before ++ fragments)
-        → AreOneRecord (kinds_of fragments) → (front rest : List Item) × (scan.items ≡ front ++ whole
+        → IsScan number true file scan → is_compressed file ≡ false
+        → HasFragments number file (32768 * block) (before ++ fragments) → AreOneRecord (kinds_of fragments)
+        → (front rest : List Item) × (scan.items ≡ front ++ whole
         (next_place number (end_of number (32768 * block) before))
         (end_of number (32768 * block) (before ++ fragments)) (record_of fragments) ∷ rest) }
 {}
@@ -59,11 +61,12 @@ pub fn whole_records_are_found_from_a_place()
         (before fragments : List Fragment) → IsScanFrom number true file from scan
         → HasFragments number file from (before ++ fragments) → AreOneRecord (kinds_of fragments)
         → HasRecord number from before fragments scan.items }
-    // Or they lead from the start of a later block: the record is in the order of that block.
+    // Or they lead from the start of a later block: the record is in the order of that block. If the scan begins at the
+    // file's start, the log isn't a compressed one.
     ensures in_block_order { (number : Option ℕ) (file : List ℕ) (from : ℕ) (scan : Scan) (block : ℕ)
-        (before fragments : List Fragment) → IsScanFrom number true file from scan → from ≤ 32768 * block
-        → HasFragments number file (32768 * block) (before ++ fragments) → AreOneRecord (kinds_of fragments)
-        → HasRecord number (32768 * block) before fragments scan.items }
+        (before fragments : List Fragment) → IsScanFrom number true file from scan → PassesStart file from
+        → from ≤ 32768 * block → HasFragments number file (32768 * block) (before ++ fragments)
+        → AreOneRecord (kinds_of fragments) → HasRecord number (32768 * block) before fragments scan.items }
 {}
 
 /// A new scan goes on where an earlier one found its last record, also if the log has grown since.

@@ -18,7 +18,11 @@ ReadsOn reader in_hand answer file = Follows file reader → reader.stopped ≡ 
 
 -- what follows from an end of reading
 abbrev PassesAt : ScannerState → ScannerState → Reader → Lost → Found → List ℕ → Type 0
-PassesAt s new reader end result file = ReadingEnds s.number file s.here end.at end.why → Passes file (record s { reader = reader }) new end result
+PassesAt s new reader end result file = Follows file reader → ReadingEnds s.number file s.here end.at end.why → Passes file (record s { reader = reader }) new end result
+
+-- what the reader answers, and the file that it follows
+abbrev Read : Reader → Reader → List ℕ → Next → List ℕ → Type 0
+Read old new in_hand answer file = ReadsOn old in_hand answer file × (Follows file old → Follows file new)
 
 pub returns-in-Record-clause-found : goal.returns-in-Record-clause-found
 returns-in-Record-clause-found g c =
@@ -53,11 +57,14 @@ returns-in-End-clause-found g c =
     let reader = c.next.new.self in
     let end : Lost = record { at = c.in-End.at; why = c.in-End.why } in
     let passed = subst (λ (s : ScannerState). IfSome (g.R.ReadAt.held c.next.new.disk) (PassesAt s new reader end c.pass.result)) c.self.view_is c.pass.ensures.found in
-    if_both (g.R.ReadAt.held c.args.disk.now) (ReadsOn c.self.inside.reader reader.in_hand (next.End end.at end.why)) (PassesAt old new reader end c.pass.result) _ c.in-End.ensures.reads
+    let read = if_both (g.R.ReadAt.held c.args.disk.now) (ReadsOn c.self.inside.reader reader.in_hand (next.End end.at end.why)) (λ file. Follows file c.self.inside.reader → Follows file reader)
+    (Read c.self.inside.reader reader reader.in_hand (next.End end.at end.why)) c.in-End.ensures.reads c.in-End.ensures.follows (λ file r f. (r, f)) in
+    if_both (g.R.ReadAt.held c.args.disk.now) (Read c.self.inside.reader reader reader.in_hand (next.End end.at end.why)) (PassesAt old new reader end c.pass.result) _ read
     (subst (λ (t : Option (List ℕ)). IfSome t (PassesAt old new reader end c.pass.result)) (g.met.R.ReadAt.reads_keep _ _ c.in-End.ensures.disk) passed)
     (λ file reads passes at going.
-    let ends = reads_here file _ old reader.in_hand (next.End end.at end.why) c.self.view_is going at c.self.inside.numbered reads in
-    passes_on file old new reader end c.pass.result at ends (passes ends))
+    let ends = reads_here file _ old reader.in_hand (next.End end.at end.why) c.self.view_is going at c.self.inside.numbered reads.0 in
+    let follows = reads.1 (subst (λ (s : ScannerState). Follows file s.reader) (sym c.self.view_is) at.follows) in
+    passes_on file old new reader end c.pass.result at ends (passes follows ends))
 
 pub returns-in-End-clause-is_at : goal.returns-in-End-clause-is_at
 returns-in-End-clause-is_at g c =
@@ -66,8 +73,11 @@ returns-in-End-clause-is_at g c =
     let reader = c.next.new.self in
     let end : Lost = record { at = c.in-End.at; why = c.in-End.why } in
     let passed = subst (λ (s : ScannerState). IfSome (g.R.ReadAt.held c.next.new.disk) (PassesAt s new reader end c.pass.result)) c.self.view_is c.pass.ensures.found in
-    if_both (g.R.ReadAt.held c.args.disk.now) (ReadsOn c.self.inside.reader reader.in_hand (next.End end.at end.why)) (PassesAt old new reader end c.pass.result) _ c.in-End.ensures.reads
+    let read = if_both (g.R.ReadAt.held c.args.disk.now) (ReadsOn c.self.inside.reader reader.in_hand (next.End end.at end.why)) (λ file. Follows file c.self.inside.reader → Follows file reader)
+    (Read c.self.inside.reader reader reader.in_hand (next.End end.at end.why)) c.in-End.ensures.reads c.in-End.ensures.follows (λ file r f. (r, f)) in
+    if_both (g.R.ReadAt.held c.args.disk.now) (Read c.self.inside.reader reader reader.in_hand (next.End end.at end.why)) (PassesAt old new reader end c.pass.result) _ read
     (subst (λ (t : Option (List ℕ)). IfSome t (PassesAt old new reader end c.pass.result)) (g.met.R.ReadAt.reads_keep _ _ c.in-End.ensures.disk) passed)
     (λ file reads passes at going.
-    let ends = reads_here file _ old reader.in_hand (next.End end.at end.why) c.self.view_is going at c.self.inside.numbered reads in
-    passes_at file old new reader end c.pass.result (c.pass.ensures.number ∙ ap (λ (s : ScannerState). s.number) c.self.view_is) (c.pass.ensures.goes_on ∙ ap (λ (s : ScannerState). s.goes_on) c.self.view_is) at ends (passes ends))
+    let ends = reads_here file _ old reader.in_hand (next.End end.at end.why) c.self.view_is going at c.self.inside.numbered reads.0 in
+    let follows = reads.1 (subst (λ (s : ScannerState). Follows file s.reader) (sym c.self.view_is) at.follows) in
+    passes_at file old new reader end c.pass.result (c.pass.ensures.number ∙ ap (λ (s : ScannerState). s.number) c.self.view_is) (c.pass.ensures.goes_on ∙ ap (λ (s : ScannerState). s.goes_on) c.self.view_is) at ends (passes follows ends))
