@@ -350,9 +350,9 @@ WZ_ANSWER wz_code wz_reader_record(wz_reader *reader, void *buffer, size_t buffe
    A scan finds the records of a log as a reader does, and where reading ends by damage it goes on after it, as `wzlog
    scan` does: where the damaged fragment should end, or at the next block (WZ_BLOCK_LEN). What continues a record whose
    beginning isn't there is skipped. If from the start of a block fragments follow one another that read, and the
-   last of them are one record, then a scan from the log's start finds that record, whatever is damaged elsewhere. What
-   is found after damage is there, and isn't recovered: between two records something may be missing, and what follows
-   damage may be of another history. */
+   last of them are one record, then a scan from the log's start finds that record, whatever is damaged elsewhere;
+   except in a compressed log, of which a scan from its start reads nothing. What is found after damage is there, and
+   isn't recovered: between two records something may be missing, and what follows damage may be of another history. */
 
 /* Opens a scan at a place of the log: the end of a record (record->end), or 0. So a log that grows is scanned on where
    an earlier scan ended. At any other place it finds what would be found if a record ended there. The log's bytes are

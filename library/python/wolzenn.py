@@ -296,7 +296,10 @@ def _load():
         library = ctypes.CDLL(os.path.join(folder, name))
     else:
         places = [os.path.join(here, os.pardir, it, name) for it in ("out", "lib")]
-        library = ctypes.CDLL(next((it for it in places if os.path.exists(it)), name))
+        try:
+            library = ctypes.CDLL(next((it for it in places if os.path.exists(it)), name))
+        except OSError as why:
+            raise ImportError(f"{why}: run library/build of the repository, or set WOLZENN_LIB") from None
     u32, u64, size, at = ctypes.c_uint32, ctypes.c_uint64, ctypes.c_size_t, ctypes.c_void_p
     # Another version may have other functions, and other structures.
     library.wz_version.argtypes, library.wz_version.restype = [], u32
