@@ -107,8 +107,17 @@ look_first() {
         line="$pages/RECOVERY.md, heading \`${reason%% *}\`, says what they may be"
         [[ $number && "$at $reason" == '0 badtype '[1-4] ]] && line='it has no number: leave `--number` out'
         refuse "nothing was changed: what comes at the byte $at of this log isn't read: $reason" \
-            "at least $((size - at)) of its $size bytes would be truncated; $line" \
-            '`--mode point` truncates them, and resumes the log'
+            "at least $((size - at)) of its $size bytes would be truncated; $line" "$(what_then)"
+    fi
+}
+
+# What to do with a log that isn't read on at `at` for this reason. A compressed one, and tags of operations that RocksDB
+# writes and recovery doesn't apply, are no damage: then it isn't said how to truncate them.
+what_then() {
+    if [[ "$at $reason" == '0 badtype 9' || $reason == 'tag '@(2|6|9|1[0-9]|2[1-5]) ]]; then
+        echo 'that is no damage, if the byte is right: RocksDB reads such a log, and it is not resumed here'
+    else
+        echo '`--mode point` truncates them, and resumes the log'
     fi
 }
 
