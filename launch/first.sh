@@ -101,13 +101,13 @@ build_unproved() {
 want_kit() {
     find_kit
     [[ ! $kit_id ]] || return 0
-    say "$1 isn't built from these sources, and there is no rt to build it with"
+    say "$1, and there is no rt on the path: the kit's command, as README.md says under Start"
     exit 127
 }
 
 # Builds the program of a crate, and sets `program` and `how`.
 build_first() {
-    want_kit 'the program'
+    want_kit "the program isn't built from these sources"
     if ! take_turn "$1" 'builds the program here'; then
         say "the program isn't built from these sources, and $made can't be written"
         exit 126
