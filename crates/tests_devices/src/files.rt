@@ -188,12 +188,17 @@ fn file_without_a_folder(rt: HostRuntime) -> Result<(), Fail> {
 }
 
 // Calls of a disk that only reads, before another program writes to the file, and after the file has become longer and
-// shorter. It reads as far as the file went at its first call.
+// shorter. It reads as far as the file went when it was last asked for its length. A file that has become shorter
+// keeps its length there, so that a read of what is gone fails.
 const BEFORE: [Row; 1] = [(Call::Len, Ok(3))];
 
-const LONGER: [Row; 2] = [(Call::Len, Ok(3)), (Call::Read(1), Ok(2))];
+const LONGER: [Row; 3] = [
+    (Call::Read(1), Ok(2)),
+    (Call::Len, Ok(5)),
+    (Call::Read(1), Ok(4)),
+];
 
-const SHORTER: [Row; 2] = [(Call::Read(0), Err(Failed)), (Call::Len, Ok(3))];
+const SHORTER: [Row; 2] = [(Call::Read(0), Err(Failed)), (Call::Len, Ok(5))];
 
 // Writes a file as another program does.
 fn write(rt: &HostRuntime, name: &str, bytes: &[u8]) -> io::Result<()> {
