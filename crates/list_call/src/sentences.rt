@@ -87,6 +87,7 @@ fn say_end<R: ReadAt, E: Sink>(end: LogEnd, page: &str, file: &mut R, errors: &m
             put(errors, meaning_of(why));
             put(errors, "\n");
             say_older(errors, number, why);
+            say_no_log(errors, at, why);
             say_to_do(errors, why, page);
             say_around(file, errors, at);
         }
@@ -128,6 +129,22 @@ fn say_older<E: Sink>(errors: &mut E, number: Option<u32>, why: EndReason) {
         say(
             errors,
             "or the log ends there, if it was written over an older one, whose bytes follow",
+        );
+    }
+}
+
+/// Says of a file whose first fragment doesn't read that it may be none of a log, such as a table of the same database.
+fn say_no_log<E: Sink>(errors: &mut E, at: u64, why: EndReason) {
+    let may_be_none = match why {
+        // These kinds have a sentence of their own.
+        EndReason::Broken(Damage::BadType(5..=11 | 130 | 131)) => false,
+        EndReason::Broken(Damage::BadType(_) | Damage::BadLength | Damage::BadChecksum) => at == 0,
+        _ => false,
+    };
+    if may_be_none {
+        say(
+            errors,
+            "or this file is no log, since not even its first fragment reads",
         );
     }
 }
