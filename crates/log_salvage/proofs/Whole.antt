@@ -1,8 +1,7 @@
 -- What steps keep, one after another.
-use Rattle.std.proofs.Common.{◌≡◌, ℕ, ◌+◌, ◌^◌, ◌≤◌, Bool, true, List, [], ◌∷◌, ◌++◌, length, take, Option, Some, None, IfSome, unwrap_or, refl, sym, ◌∙◌, ap, subst, append_assoc, append-nil, length-append, add-zero, arith}
+use Rattle.std.proofs.Common.{◌≡◌, ℕ, ◌+◌, ◌^◌, ◌≤◌, Bool, true, List, [], ◌∷◌, ◌++◌, length, Option, Some, None, IfSome, unwrap_or, refl, sym, ◌∙◌, ap, subst, append_assoc, append-nil, length-append, add-zero, arith}
 use Rattle.std.specs.Io.KnownBytes.{Appends}
 use Rattle.std.proofs.KnownBytes.{Appends-trans}
-use Rattle.std.proofs.Math.Seq.{take-append-add}
 use Rattle.model_base.specs.Log.{record_text, text_from}
 use Rattle.model_base.specs.declared.log.EndReason.{EndReason}
 use Rattle.log_scan.specs.Scanner.{FindsRecord, IsAt, IsGoing, ScannerState, unread_before}
@@ -14,7 +13,7 @@ use Rattle.list_log.proofs.Stepped.{finds_one}
 use Rattle.log_salvage.specs.Counting.{AreCounts, no_counts, with_record, with_skipped, with_step, with_unread, with_verdict}
 use Rattle.log_salvage.specs.Keeping.{AreKept, HasVerdict, no_records, with_kept, with_left_out, with_stretch}
 use Rattle.log_salvage.specs.NewLogs.{NewLogState, longer, text_of}
-use Rattle.log_salvage.specs.Salvaging.{AddsAll, AnswersSalvage, AreFound, Source, Written, ended, text_of_all}
+use Rattle.log_salvage.specs.Salvaging.{AddsAll, AnswersSalvage, AreFound, IsKeptNext, Source, Written, ended, text_of_all}
 use Rattle.log_salvage.specs.Steps.{AddsUnless, FindsStep, HasCauses, WhereItGoesOn, WritesStep}
 use Rattle.log_salvage.specs.declared.counts.Counts.{Counts}
 use Rattle.log_salvage.specs.declared.keeping.LeftOut.{LeftOut}
@@ -79,10 +78,6 @@ longer_more : (log now new : NewLogState) (text more : List ℕ) → now ≡ lon
 longer_more log now new text more is new_is =
     new_is ∙ (ap (λ (l : NewLogState). longer l more) is ∙ ap (log_with log.number) (omega (arith, length-append text more)))
 
--- a part of the next record's text
-part : (before mid after : Option (List ℕ)) (so_far text : List ℕ) (n : ℕ) → Appends before mid so_far → Appends mid after (take n text) → Appends before after (take (length so_far + n) (so_far ++ text))
-part before mid after so_far text n first second = subst (Appends before after) (sym (take-append-add so_far text n)) (Appends-trans before mid after so_far (take n text) first second)
-
 -- ---- what is found
 
 -- a scanner of this log
@@ -109,6 +104,14 @@ found_next range source old new stretch start end items records answer of at fou
       are = kept_join range items more records (kept_of answer bytes) so_far.are (items_kept range old.lost old.place start end bytes answer verdict);
     }
 
+kept_next : (range : Range) (source : Source) (old new : ScannerState) (stretch : Option Unread) (start end : ℕ) (items : List Item) (records : List (List ℕ)) → IsOf source old → IsAt source.file old
+    → FindsRecord source.file old new stretch start end → HasVerdict range new.reader.in_hand None → AreFound range source old.place items records → IsKeptNext range source items records new.reader.in_hand
+kept_next range source old new stretch start end items records of at found verdict so_far = (
+  new.place,
+  items_with old.lost old.place start end new.reader.in_hand,
+  found_next range source old new stretch start end items records None of at found verdict so_far,
+)
+
 -- ---- what was added
 
 -- up to a place of the file
@@ -128,7 +131,7 @@ adds_none range source place first start none = (
 )
 
 -- where nothing changed
-same_written : (range : Range) (source : Source) (place : ℕ) (items : List Item) (first mid after : Written) → after.log ≡ mid.log → after.taken ≡ mid.taken → after.counts ≡ mid.counts
+abbrev same_written : (range : Range) (source : Source) (place : ℕ) (items : List Item) (first mid after : Written) → after.log ≡ mid.log → after.taken ≡ mid.taken → after.counts ≡ mid.counts
     → AddsAll range source place items first mid → AddsAll range source place items first after
 same_written range source place items first mid after log taken counts adds = record {
   records = adds.records;
@@ -187,14 +190,6 @@ same_ends : (source : Source) (s : ScannerState) (at : ℕ) (why : EndReason) �
 same_ends source s at why of ends =
     subst (λ (n : Option ℕ). Ends n true source.file s.place at why) of.number (subst (λ (g : Bool). Ends s.number g source.file s.place at why) of.goes_on ends)
 
-too_long : (log now : NewLogState) (records : List (List ℕ)) (bytes : List ℕ) → now ≡ longer log (text_of_all log records) → 2 ^ 63 ≤ now.len + length (text_of now bytes)
-    → 2 ^ 63 ≤ log.len + length (text_of_all log (records ++ bytes ∷ []))
-too_long log now records bytes is long =
-    let so_far = text_of_all log records in
-    let len : now.len ≡ log.len + length so_far = ap (λ (l : NewLogState). l.len) is in
-    let whole : length (text_of_all log (records ++ bytes ∷ [])) ≡ length so_far + length (text_of now bytes) = ap length (text_more log now records bytes is) ∙ length-append so_far (text_of now bytes) in
-    omega (arith, len, whole, long)
-
 -- the step that ends it
 pub adds_at_end : (range : Range) (source : Source) (old new : ScannerState) (first mid after : Written) (s : Step) (result : Salvaged) → IsOf source old → IsAt source.file old → ended s ≡ Some result
     → FindsStep source.file old new s → WritesStep range new.reader.in_hand mid.log after.log mid.taken after.taken s → after.counts ≡ mid.counts → AddsTo range source old.place first mid
@@ -215,32 +210,24 @@ adds_at_end range source old new first mid after step.NoMemory result of at is f
     subst (AnswersSalvage range source first after) (became salvaged.NoMemory result is)
     (old.place, so_far.0, same_written range source old.place so_far.0 first mid after written.0 written.1 counts so_far.1)
 adds_at_end range source old new first mid after step.TooLong result of at is found written counts so_far =
-    let adds = so_far.1 in
     let bytes = new.reader.in_hand in
     subst (AnswersSalvage range source first after) (became salvaged.TooLong result is) (
-      (old.place, so_far.0, same_written range source old.place so_far.0 first mid after written.1.1 written.1.2 counts adds),
-      (
-        new.place,
-        so_far.0 ++ items_with old.lost old.place found.1 found.2 bytes,
-        adds.records ++ bytes ∷ [],
-        found_next range source old new found.0 found.1 found.2 so_far.0 adds.records None of at found.3 written.0 adds.found,
-        too_long first.log mid.log adds.records bytes adds.log_is written.1.0,
-      ),
+      old.place,
+      so_far.0,
+      same_written range source old.place so_far.0 first mid after written.1.1 written.1.2 counts so_far.1,
+      bytes,
+      kept_next range source old new found.0 found.1 found.2 so_far.0 so_far.1.records of at found.3 written.0 so_far.1.found,
+      subst (λ (log : NewLogState). 2 ^ 63 ≤ log.len + length (text_of log bytes)) (sym written.1.1) written.1.0,
     )
 adds_at_end range source old new first mid after step.SinkFailed result of at is found written counts so_far =
-    let adds = so_far.1 in
-    let bytes = new.reader.in_hand in
-    let text = text_of_all first.log adds.records in
     subst (AnswersSalvage range source first after) (became salvaged.SinkFailed result is) (
-      new.place,
-      so_far.0 ++ items_with old.lost old.place found.1 found.2 bytes,
-      adds.records ++ bytes ∷ [],
-      found_next range source old new found.0 found.1 found.2 so_far.0 adds.records None of at found.3 written.0 adds.found,
-      (
-        length text + written.1.0,
-        subst (λ (t : List ℕ). Appends first.taken after.taken (take (length text + written.1.0) t)) (sym (text_more first.log mid.log adds.records bytes adds.log_is))
-            (part first.taken mid.taken after.taken text (text_of mid.log bytes) written.1.0 adds.taken written.1.2),
-      ),
+      mid,
+      old.place,
+      so_far.0,
+      so_far.1,
+      new.reader.in_hand,
+      kept_next range source old new found.0 found.1 found.2 so_far.0 so_far.1.records of at found.3 written.0 so_far.1.found,
+      (counts, written.1.0, written.1.1, written.1.2),
     )
 
 -- ---- what holds where it goes on

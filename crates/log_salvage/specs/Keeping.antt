@@ -1,4 +1,4 @@
--- Which records of a damaged log are kept. The nearest in public is `ConvertLogToTable` of RocksDB's db/repair.cc, which
+-- Which records of a damaged log are kept. The nearest in public is `ConvertLogToTable` of RocksDB's db/repair.cc: it
 -- applies the batches of a log to a new table, one by one. There a batch of which only the front is known is applied in
 -- part. Here a record is kept as it is, or left out.
 use Rattle.std.specs.Prelude.{◌≡◌, ℕ, List, [], ◌∷◌, Option, Some, None, if◌then◌else◌}

@@ -1,12 +1,12 @@
 -- All that is kept of a file, and written to a new log.
-use Rattle.std.specs.Prelude.{◌≡◌, ℕ, ◌+◌, ◌^◌, ◌≤◌, true, List, length, take, Option, Some, None}
+use Rattle.std.specs.Prelude.{◌≡◌, ℕ, ◌+◌, ◌^◌, ◌<◌, ◌≤◌, true, List, [], ◌∷◌, ◌++◌, length, take, Option, Some, None}
 use Rattle.std.specs.Io.KnownBytes.{Appends}
 use Rattle.base_devices.specs.Faults.{Rose}
 use Rattle.model_base.specs.Log.{SpellsWhole, text_from}
 use Rattle.log_scan.specs.Scanning.{Item, Finds, IsScan}
 use Rattle.log_salvage.specs.Counting.{AreCounts}
 use Rattle.log_salvage.specs.Keeping.{AreKept}
-use Rattle.log_salvage.specs.NewLogs.{NewLogState, longer}
+use Rattle.log_salvage.specs.NewLogs.{NewLogState, longer, text_of}
 use Rattle.log_salvage.specs.declared.counts.Counts.{Counts}
 use Rattle.log_salvage.specs.declared.keeping.Range.{Range}
 use Rattle.log_salvage.specs.declared.salvaged.Salvaged.{Salvaged}
@@ -54,20 +54,30 @@ pub record HoldsLog (w : Written) (records : List (List ℕ)) : Type 0 where
   pub len : w.log.len ≡ length text
   pub spelled : SpellsWhole w.log.number text records
 
--- All that a scan finds was gone through. If the disk failed, memory ran out or the new log got too long, that is so of
--- a front of it; if the sink failed, it took a part of the text of such a front.
+-- after these items, of which these records are kept, this is the next one that is
+abbrev pub IsKeptNext : Range → Source → List Item → List (List ℕ) → List ℕ → Type 0
+IsKeptNext range source items records bytes = (place : ℕ) × (more : List Item)
+    × AreFound range source place (items ++ more) (records ++ bytes ∷ [])
+
+-- the sink took a part of a record's text, but not all, and nothing was counted
+abbrev pub AddsPart : List ℕ → Written → Written → Type 0
+AddsPart bytes before new = (new.counts ≡ before.counts) × (n : ℕ) × (n < length (text_of before.log bytes))
+    × Appends before.taken new.taken (take n (text_of before.log bytes))
+
+-- All that a scan finds was gone through. If the disk failed or memory ran out, that is so of a front of it; so it is if
+-- with the next record the new log would be too long, or the sink failed at the next record.
 abbrev pub AnswersSalvage : Range → Source → Written → Written → Salvaged → Type 0
 AnswersSalvage range source old new (salvaged.All at why) = (place : ℕ) × (items : List Item)
     × AddsAll range source place items old new
     × IsScan source.number true source.file (record { items = items; at = at; why = why })
 AnswersSalvage range source old new (salvaged.Fault count) = AddsFront range source old new
 AnswersSalvage range source old new salvaged.NoMemory = AddsFront range source old new
-AnswersSalvage range source old new salvaged.TooLong = AddsFront range source old new
-    × ((place : ℕ) × (items : List Item) × (records : List (List ℕ)) × AreFound range source place items records
-    × (2 ^ 63 ≤ old.log.len + length (text_of_all old.log records)))
-AnswersSalvage range source old new salvaged.SinkFailed = (place : ℕ) × (items : List Item)
-    × (records : List (List ℕ)) × AreFound range source place items records
-    × ((n : ℕ) × Appends old.taken new.taken (take n (text_of_all old.log records)))
+AnswersSalvage range source old new salvaged.TooLong = (place : ℕ) × (items : List Item)
+    × (adds : AddsAll range source place items old new) × (bytes : List ℕ)
+    × IsKeptNext range source items adds.records bytes × (2 ^ 63 ≤ new.log.len + length (text_of new.log bytes))
+AnswersSalvage range source old new salvaged.SinkFailed = (before : Written) × (place : ℕ) × (items : List Item)
+    × (adds : AddsAll range source place items old before) × (bytes : List ℕ)
+    × IsKeptNext range source items adds.records bytes × AddsPart bytes before new
 
 abbrev pub HasSalvageCauses : ℕ → ℕ → ℕ → ℕ → Salvaged → Type 0
 HasSalvageCauses disk_before disk_now sink_before sink_now (salvaged.Fault count) =
